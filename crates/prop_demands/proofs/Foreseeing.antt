@@ -1,5 +1,5 @@
 -- What is foreseen of a term's value is known of it at points that satisfy the state.
-use Rattle.std.proofs.Common.{◌≡◌, ◌<◌, ℕ, List, All, Some, length, subst}
+use Rattle.std.proofs.Common.{◌≡◌, ℕ, List, Some, subst}
 use Rattle.prop_lattice.specs.Points.{Point, Number, Element, Symbol, Holds, IsPointOf}
 use Rattle.prop_lattice.specs.declared.info.Info.TheVariants as infos
 use Rattle.prop_lattice.specs.declared.info.Kind.{Kind}

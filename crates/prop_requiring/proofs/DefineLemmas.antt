@@ -1,6 +1,6 @@
 -- What a line defines, and what follows then.
 use Rattle.std.proofs.Common.{◌≡◌, ◌∙◌, ◌⊎◌, ◌++◌, ◌∷◌, ◌+◌, [], ℕ, zero, suc, ◌<◌, ◌≤◌, ◌==◌, true, false, List}
-use Rattle.std.proofs.Common.{Result, Ok, Err, Option, Some, None, absurd, add-one, ap, arith, codes, drop, drop-cons}
+use Rattle.std.proofs.Common.{Result, Ok, Err, Option, Some, None, add-one, ap, arith, codes, drop, drop-cons}
 use Rattle.std.proofs.Common.{eqb-true, get_or, inl, inr, length, refl, subst, sym, take}
 use Rattle.std.specs.Prelude.{⊤, cond, not}
 use Rattle.std.specs.Result.{is_ok}
@@ -26,13 +26,14 @@ use Rattle.prop_terms.specs.declared.forming.Sort.TheVariants.{Any, Truth}
 use Rattle.prop_terms.specs.declared.operators.Infix.TheVariants.{Equal}
 use Rattle.prop_workbench.specs.Questions.{Picks}
 use Rattle.prop_seeking.specs.Seeking.{Sought}
+use Rattle.prop_blaming.specs.Blaming.{blaming}
 use Rattle.prop_notes.specs.Notes.{is_done}
 use Rattle.prop_demands.specs.Refusing.{IsRefused, is_of_term}
 use Rattle.prop_requiring.specs.Asking.{HasNoEquals, IsAsked, IsDefined, cell_line}
 use Rattle.prop_requiring.proofs.AskLemmas.{trimmed_says}
-use Rattle.prop_requiring.specs.Requiring.{Declares, Puts, Requires}
+use Rattle.prop_requiring.specs.Requiring.{Declares, IsUndefined, Puts, Requires}
 use Rattle.prop_requiring.specs.inner.Parts.{trimmed}
-use Rattle.prop_requiring.specs.inner.Puttings.{Carries, IsHindered, MayFix, MayPut}
+use Rattle.prop_requiring.specs.inner.Puttings.{Carries, IsHindered, MayFix, MayPass, MayPut}
 
 -- ---- the first equals sign
 
@@ -79,6 +80,11 @@ pub read_refused : (sort : Sort) (text : List ℕ) (e : Refusal)
 read_refused sort text e (inl memory) = inl memory
 read_refused sort text e (inr (inl long)) = inr (inl long)
 read_refused sort text e (inr (inr none)) = inr (inr (inl none))
+
+pub unparted : (line : List ℕ) (e : Refusal) → ((e ≡ LineTooLong) × (4_096 < length line))
+    ⊎ ((e ≡ WrongForm) × (length line ≤ 4_096) × HasNoEquals line) → IsUndefined line e
+unparted line e (inl long) = inl long
+unparted line e (inr none) = inr (inl none)
 
 pub of_term : (sort : Sort) (text : List ℕ) (t : Term) → IsWritten sort text t → (e : Refusal)
     → (e ≡ Memory) ⊎ (is_of_term e ≡ true) → IsRefused sort text e
@@ -151,6 +157,16 @@ pub after_err : {O : Type 0} (library : List Stored) (fixed : Sought O) (equatio
     → After library fixed equation (Refused Memory) new
 after_err library fixed equation reason new (inl (e, is, why, same)) = inl (refl, same)
 after_err library fixed equation reason new (inr puts) = inr (Err reason, refl, puts)
+
+-- a cell is declared, a line given, and the equation put
+pub carried : {O Z : Type 0} (picks : Picks O) (library : List Stored) (old : Sought O) (declaring : List ℕ)
+    (fixing : Option (Vec ℕ Z)) (equation : Term) (reply answer : Answer) (declared fixed new : Sought O)
+    → is_done reply ≡ true → blaming picks library old declaring reply declared
+    → MayPass picks library declared fixing fixed → After library fixed equation answer new
+    → Carries picks library old declaring fixing equation answer new
+carried picks library old declaring fixing equation reply answer declared fixed new done blames passes after =
+    let P : Answer → Type 0 = λ a. blaming picks library old declaring a declared in
+    inr (declared, fixed, subst P (done_is reply done) blames, passes, after)
 
 -- a cell that is declared by what was prepared, is declared as the machine does it
 pub declares_from : {O Z : Type 0} (picks : Picks O) (library : List Stored) (old : Sought O)

@@ -35,7 +35,7 @@ pub(crate) fn required(line: &[u8]) -> Option<&[u8]>
 }
 
 /// What stands behind `let` in a line that defines a cell.
-pub(crate) fn defined(line: &[u8]) -> Option<&[u8]>
+pub(crate) fn behind_let(line: &[u8]) -> Option<&[u8]>
     ensures { MatchOption result (is_definition line.now ≡ false)
         (λ rest. (is_definition line.now ≡ true) × (line.now ≡ codes "let" ++ rest.now)) }
 {

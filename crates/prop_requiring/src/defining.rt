@@ -226,7 +226,7 @@ fn fixing(
 /// That what has a name is what a term is worth.
 fn equation<'l>(alloc: Global, name: &'l [u8], term: Term<'l>) -> Result<Term<'l>, AllocError>
     ensures { IfOk result
-        (λ t. term_of t ≡ terms.Two Infix.Equal (terms.Name name.now) (term_of term)) }
+        (λ t. term_of t ≡ terms.Two Infix.Equal (terms.Name name.now) (term_of term.entry)) }
 {
     match (Box::new(alloc, Term::Name(name)), Box::new(alloc, term)) {
         (Ok(left), Ok(right)) => Ok(Term::Two(Infix::Equal, left, right)),
@@ -319,7 +319,7 @@ impl<R: Guarded + Drop, O: Order + Drop> Requirer<R, O> {
 
     /// What a definition does whose text says this term, of whose value this is known. Refused with
     /// 4 is a term in which the name stands.
-    fn prepared<'l>(
+    fn prepare_term<'l>(
         &self,
         parts: Defined<'l>,
         term: Term<'l>,
@@ -375,7 +375,7 @@ impl<R: Guarded + Drop, O: Order + Drop> Requirer<R, O> {
             Err(refusal) => return Err(refusal),
         };
         match self.known_of(&term) {
-            Ok(known) => self.prepared(parts, term, known),
+            Ok(known) => self.prepare_term(parts, term, known),
             Err(refusal) => {
                 drop(term);
                 Err(refusal)

@@ -2,7 +2,7 @@
 ghost use Rattle.std.specs.Prelude.{◌≡◌, IfOk};
 ghost use Rattle.std.specs.List.{range_with_len};
 
-use crate::asking::{defined, read_line, required, term_in};
+use crate::asking::{behind_let, read_line, required, term_in};
 use prop_blaming::Blamer;
 use prop_demands::understood;
 use prop_engine::Reply;
@@ -79,7 +79,7 @@ impl<R: Guarded + Drop, O: Order + Drop> Requirer<R, O> {
     {
         match required(line) {
             Some(behind) => Reply::of(self.require(behind)),
-            None => match defined(line) {
+            None => match behind_let(line) {
                 Some(behind) => self.define(behind),
                 None => self.pass(line),
             },
