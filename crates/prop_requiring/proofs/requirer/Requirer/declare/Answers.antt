@@ -5,7 +5,7 @@ use Rattle.prop_engine.specs.Answers.{Done, Refused, answer_of}
 use Rattle.prop_refusals.specs.declared.refusal.Refusal.TheVariants.{Memory}
 use Rattle.prop_seeking.specs.inner.Seekers.{sought_of}
 use Rattle.prop_requiring.proofs.DefineLemmas.{after_err, after_ok, carried}
-use Rattle.prop_requiring.proofs.defining.Requirer.declare.Goals as goal
+use Rattle.prop_requiring.proofs.requirer.Requirer.declare.Goals as goal
 
 pub returns-then-not-is_done-clause-declares : goal.returns-then-not-is_done-clause-declares
 returns-then-not-is_done-clause-declares g c =
