@@ -57,8 +57,8 @@ pub own_definition : {O : Type 0} (picks : Picks O) (library : List Stored) (old
     (answer : Answer) (new : Sought O) → is_requirement line ≡ false → is_definition line ≡ true
     → line ≡ codes "let" ++ behind → Defines picks library old (codes "let" ++ behind) answer new
     → requiring picks library old line answer new
-own_definition picks library old line behind answer new no is split defines =
-    rw (no, is) (subst (λ (l : List ℕ). Defines picks library old l answer new) (sym split) defines)
+own_definition picks library old line behind answer new other is split defines =
+    rw (other, is) (subst (λ (l : List ℕ). Defines picks library old l answer new) (sym split) defines)
 
 -- the numbers below one more
 pub range_push : (n : ℕ) (old new : List ℕ) → old ≡ range_with_len 0 n → new ≡ old ++ n ∷ []

@@ -330,9 +330,9 @@ impl<R: Guarded + Drop, O: Order + Drop> Requirer<R, O> {
             (state_of self.now.blamer.seeker.teller.session) (term_of term) known.kinded known.span }
         ensures ok { IfOk result (λ p. Prepares
             (library_of R.value_of self.now.blamer.seeker.teller.session)
-            (state_of self.now.blamer.seeker.teller.session) parts.before.now parts.text.now
-            p.declaring.items p.fixing (term_of p.equation)) }
-        ensures err { IfErr result (IsHindered parts.before.now parts.text.now) }
+            (state_of self.now.blamer.seeker.teller.session) parts.entry.before.now
+            parts.entry.text.now p.declaring.items p.fixing (term_of p.equation)) }
+        ensures err { IfErr result (IsHindered parts.entry.before.now parts.entry.text.now) }
     {
         let alloc = self.blamer.alloc();
         let name = match name_in(alloc, parts.before) {
@@ -366,9 +366,9 @@ impl<R: Guarded + Drop, O: Order + Drop> Requirer<R, O> {
         requires ready { IsReady R.value_of self.now }
         ensures ok { IfOk result (λ p. Prepares
             (library_of R.value_of self.now.blamer.seeker.teller.session)
-            (state_of self.now.blamer.seeker.teller.session) parts.before.now parts.text.now
-            p.declaring.items p.fixing (term_of p.equation)) }
-        ensures err { IfErr result (IsHindered parts.before.now parts.text.now) }
+            (state_of self.now.blamer.seeker.teller.session) parts.entry.before.now
+            parts.entry.text.now p.declaring.items p.fixing (term_of p.equation)) }
+        ensures err { IfErr result (IsHindered parts.entry.before.now parts.entry.text.now) }
     {
         let term = match term_in(self.blamer.alloc(), parts.text, Sort::Any) {
             Ok(term) => term,

@@ -22,8 +22,8 @@ post-requires-clause-may g c =
     let library = stored_of g.R.Rule.value_of session.live.network.library in
     let numbers : c.deref.result.now ≡ range_with_len 0 (length session.live.network.cells.kinds) =
     c.deref.ensures.value ∙ c.in-Ok-all_cells.ensures in
-    let P : List ℕ → Type 0 = λ cells. MayBePosted library (state_of session) cells c.in-Ok-posting.posting in
-    subst P (sym numbers) c.in-Ok-posting.ensures.may
+    let P : List ℕ → Type 0 = λ cells. MayBePosted library (state_of session) cells c.in-Ok.posting in
+    subst P (sym numbers) c.in-Ok.ensures.may
 
 pub returns-clause-ready : goal.returns-clause-ready
 returns-clause-ready g c = record {
@@ -40,9 +40,9 @@ returns-clause-puts g c =
     let library = stored_of value session.live.network.library in
     let t = term_of c.args.term.now in
     let premise = name_of c.args.premise in
-    let p = c.in-Ok-posting.posting in
-    let u = c.in-Ok-posting.ensures.understood in
-    let law = c.in-Ok-posting.ensures.words in
+    let p = c.in-Ok.posting in
+    let u = c.in-Ok.ensures.understood in
+    let law = c.in-Ok.ensures.words in
     let numbers : c.deref.result.now ≡ range_with_len 0 (length session.live.network.cells.kinds) =
     c.deref.ensures.value ∙ c.in-Ok-all_cells.ensures in
     let P : List ℕ → Type 0 = λ cells.

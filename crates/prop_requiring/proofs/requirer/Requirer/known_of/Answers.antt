@@ -3,7 +3,7 @@ use Rattle.prop_procedures.specs.Kept.{stored_of}
 use Rattle.prop_terms.specs.Terms.{term_of}
 use Rattle.prop_demands.proofs.Foreseeing.{foreseen_is_known}
 use Rattle.prop_requiring.proofs.PostLemmas.{sound_ground}
-use Rattle.prop_requiring.proofs.defining.Requirer.known_of.Goals as goal
+use Rattle.prop_requiring.proofs.requirer.Requirer.known_of.Goals as goal
 
 pub foreseen-requires : goal.foreseen-requires
 foreseen-requires g c =

@@ -1,7 +1,7 @@
 use Rattle.std.proofs.Common.{inl, inr, refl}
 use Rattle.prop_terms.specs.Terms.{term_of}
 use Rattle.prop_requiring.proofs.DefineLemmas.{not_declared}
-use Rattle.prop_requiring.proofs.defining.Requirer.prepare_term.Goals as goal
+use Rattle.prop_requiring.proofs.requirer.Requirer.prepare_term.Goals as goal
 
 pub returns-in-Err-clause-err : goal.returns-in-Err-clause-err
 returns-in-Err-clause-err g c =

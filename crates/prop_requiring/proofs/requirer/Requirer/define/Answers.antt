@@ -4,7 +4,7 @@ use Rattle.prop_terms.specs.Terms.{term_of}
 use Rattle.prop_engine.specs.Answers.{answer_of}
 use Rattle.prop_seeking.specs.inner.Seekers.{sought_of}
 use Rattle.prop_requiring.proofs.DefineLemmas.{declares_from, unparted}
-use Rattle.prop_requiring.proofs.defining.Requirer.define.Goals as goal
+use Rattle.prop_requiring.proofs.requirer.Requirer.define.Goals as goal
 
 pub returns-in-Err-clause-defines : goal.returns-in-Err-clause-defines
 returns-in-Err-clause-defines g c =

@@ -1,7 +1,7 @@
 use Rattle.std.proofs.Common.{inl}
 use Rattle.prop_terms.specs.Terms.{term_of}
 use Rattle.prop_requiring.proofs.DefineLemmas.{not_known}
-use Rattle.prop_requiring.proofs.defining.Requirer.prepare.Goals as goal
+use Rattle.prop_requiring.proofs.requirer.Requirer.prepare.Goals as goal
 
 pub returns-in-Err-known_of-clause-err : goal.returns-in-Err-known_of-clause-err
 returns-in-Err-known_of-clause-err g c =

@@ -1,5 +1,0 @@
-use Rattle.prop_engine.specs.Answers.{answer_of}
-use Rattle.prop_requiring.proofs.defining.Requirer.fix.Goals as goal
-
-pub returns-in-Some-clause-passes : goal.returns-in-Some-clause-passes
-returns-in-Some-clause-passes g c = (answer_of c.command.result, rw c.deref.ensures.value at c.command.ensures.blames)
