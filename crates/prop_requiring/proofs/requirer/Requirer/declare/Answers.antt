@@ -1,4 +1,4 @@
-use Rattle.std.proofs.Common.{◌≡◌, ◌∙◌, List, None, Result, ap, inl, subst, sym, ℕ}
+use Rattle.std.proofs.Common.{◌∙◌, List, None, Result, ap, inl, subst, sym, ℕ}
 use Rattle.std.specs.Prelude.{⊤}
 use Rattle.prop_refusals.specs.declared.refusal.Refusal.{Refusal}
 use Rattle.prop_refusals.specs.declared.refusal.Refusal.TheVariants.{Memory}
