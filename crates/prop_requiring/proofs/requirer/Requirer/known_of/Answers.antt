@@ -1,4 +1,3 @@
-use Rattle.std.proofs.Common.{inl, inr, refl}
 use Rattle.prop_procedures.specs.Kept.{stored_of}
 use Rattle.prop_terms.specs.Terms.{term_of}
 use Rattle.prop_demands.proofs.Foreseeing.{foreseen_is_known}

@@ -7,3 +7,6 @@ pub returns-in-Err-known_of-clause-err : goal.returns-in-Err-known_of-clause-err
 returns-in-Err-known_of-clause-err g c =
     not_known c.args.parts.before.now c.args.parts.text.now (term_of c.in-Ok.term) c.in-Ok.ensures.ok
     c.in-Err-known_of.refusal c.in-Err-known_of.ensures.refused
+
+pub returns-in-Err-clause-err : goal.returns-in-Err-clause-err
+returns-in-Err-clause-err g c = inl c.in-Err.ensures.err

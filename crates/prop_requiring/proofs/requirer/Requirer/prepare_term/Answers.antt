@@ -28,6 +28,6 @@ returns-in-Ok-equation-clause-ok g c =
         of_kind = d.4;
         known = c.requires.known;
       };
-      fixes = c.fixing.ensures;
+      fixes = c.fixing-fixing.ensures;
       equation_is = c.in-Ok-equation.ensures;
     }
