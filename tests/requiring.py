@@ -1,17 +1,20 @@
 #!/usr/bin/python3
-"""Random constraints as one writes them: what `require` leaves is held to plain evaluation over all
-points.
+"""Random constraints and definitions as one writes them: what `require` and `let` leave is held to
+plain evaluation over all points.
 
 usage: tests/requiring.py PROGRAM [COUNT [FROM]]
 
 PROGRAM is a workbench that takes constraints, as propwide; COUNT networks of numbers, elements
-and truths are tried (400), whose seeds begin with FROM (0), with up to three constraints each, some
-under a premise that may be kicked out and brought again. Looked at is that
+and truths are tried (400), whose seeds begin with FROM (0), with up to two cells that are defined,
+and up to three constraints on all of them, some under a premise that may be kicked out and brought
+again. Looked at is that
 
-- `plans` of the cells, asked to the end, tells just the points at which each constraint holds whose
-  premise is believed, or that has none: no point is lost, and none is wrong;
-- a constraint with one part that is wrong, at any place, changes nothing, and is refused for what
-  is wrong with that part: its form, a word, a kind, or a number that may be out of range;
+- `plans` of the cells, asked to the end, tells just the points at which each defined cell is what
+  its expression is worth, and each constraint holds whose premise is believed, or that has none: no
+  point is lost, and none is wrong;
+- a constraint or a definition with one part that is wrong, at any place, changes nothing, and is
+  refused for what is wrong with that part: its form, a word, a kind, or a number that may be out of
+  range; and a definition of a cell that can't be made is refused as the line `cell` is;
 - `list` calls what was made by the layer's name.
 
 The status is 0 where nothing was wrong.
@@ -215,12 +218,32 @@ class Draw:
         text = f"{item.within(12)} in {{{between.join(map(str, words))}}}"
         return Part(text, 11, lambda points: truth(item.worth(points) in words))
 
+    def different(self, depth: int) -> Part:
+        """Several numbers, months or truths, of which no two are equal."""
+        chance = self.chance
+        count = chance.randint(1, 4)
+        month, sure = self.cell("month"), self.cell("truth")
+        if month and chance.random() < 0.4:
+            word = chance.choice(MONTHS)
+            parts = [month, *([Part(word, 17, lambda points: word)] if count > 1 else [])]
+            parts += [self.cell("month") or month for _ in range(count - 2)]
+        elif sure and chance.random() < 0.2:
+            parts = [sure, *(self.truth(depth - 1) for _ in range(count - 1))]
+        else:
+            parts = [self.number(depth - 1) for _ in range(count)]
+        text = f"different({', '.join(it.within(3) for it in parts)})"
+        return Part(
+            text, 17, lambda points: truth(len({it.worth(points) for it in parts}) == len(parts))
+        )
+
     def truth(self, depth: int) -> Part:
         chance = self.chance
         if depth <= 0:
             known = chance.choice(["yes", "no"])
             return self.cell("truth") or Part(known, 17, lambda points: known)
-        shape = chance.randrange(10)
+        shape = chance.randrange(11)
+        if shape == 10:
+            return self.different(depth)
         if shape == 9:
             return self.among(self.number(depth - 1), [chance.randint(-3, 9) for _ in range(3)])
         if shape == 0:
@@ -238,6 +261,17 @@ class Draw:
         if shape < 6:
             return self.joined(depth)
         return self.compared(depth)
+
+    def month(self, depth: int) -> Part:
+        """A month that a cell shows to be one."""
+        month = self.cell("month")
+        assert month
+        if depth == 0 or self.chance.random() < 0.3:
+            return month
+        return self.choice(depth, lambda depth: month)
+
+    def of_kind(self, kind: str, depth: int) -> Part:
+        return {"number": self.number, "truth": self.truth, "month": self.month}[kind](depth)
 
     def joined(self, depth: int) -> Part:
         word, level, before, behind, holds = self.chance.choice(JOINED)
@@ -267,10 +301,15 @@ NO_TRUTHS = {
     "(month == apr)": "error 15: not in the domain",
     "(month in {mar apr})": "error 15: not in the domain",
     "(stray == apr)": "error 9: no such cell",
-    "different(n0, far)": "error 4: wrong form",
+    "different(n0, far, sure)": "error 13: wrong kind",
+    "different(stray, n0)": "error 9: no such cell",
+    "different(apr, stray)": "error 9: no such cell",
 }
 # The cells that these parts name, beside those of the network.
 SPARE = ("cell far span", "cell sure truth", "cell month month")
+# What stands where a definition has a name, and is none of a new cell; and what is no definition.
+NO_NAMES = ("far", "yes", "9a", "two words", "by", "", "a+b", "far far", "{a}")
+NO_DEFINITIONS = ("let", "let x", "let x 5", "let x == 5", "let x =", "let jan = month == jan")
 
 
 @dataclass
@@ -285,6 +324,10 @@ class Misdraw(Draw):
     def truth(self, depth: int) -> Part:
         return self.misdrawn(NO_TRUTHS, depth) or super().truth(depth)
 
+    def different(self, depth: int) -> Part:
+        # (of which kind its parts are to be rests on the first of them)
+        return self.compared(depth)
+
     def misdrawn(self, parts: dict[str, str], depth: int) -> Optional[Part]:
         if self.told or self.chance.random() < 0.2 + 0.2 * depth:
             return None
@@ -294,6 +337,15 @@ class Misdraw(Draw):
 
 
 # ---- a session
+
+
+def points_of(values: dict[str, list[Value]], defined: dict[str, Part]) -> Iterator[Points]:
+    """All points of these values, with those of the cells that are defined behind them."""
+    for row in itertools.product(*values.values()):
+        points = dict(zip(values, row))
+        for cell, part in defined.items():
+            points[cell] = part.worth(points)
+        yield points
 
 
 @dataclass
@@ -329,13 +381,15 @@ class Session:
             if kind == "number":
                 self.say(f"fix {cell} {min(values[cell])}..{max(values[cell])}")
         self.misread(kinds, chance)
-        required = self.required(Draw(chance, kinds), chance)
-        self.held(values, required, set())
+        draw = Draw(chance, kinds)
+        defined = self.defined(draw, chance)
+        required = self.required(draw, chance)
+        self.held(values, defined, required, set())
         for premise in sorted({it.premise for it in required if it.premise}):
             self.say(f"kick {premise}")
-            self.held(values, required, {premise})
+            self.held(values, defined, required, {premise})
             self.say(f"bring {premise}")
-        self.held(values, required, set())
+        self.held(values, defined, required, set())
 
     def kinds(self, chance: Random) -> dict[str, str]:
         kinds = {f"n{k}": "number" for k in range(chance.randint(1, 3))}
@@ -358,11 +412,34 @@ class Session:
             part = draw.truth(chance.randint(0, 3))
             if not draw.told:
                 continue
-            reply = self.say(f"require {part.text}")
-            if reply != [draw.told]:
-                self.blame(f"require {part.text}: {reply}, and not {draw.told}")
+            for line in (f"require {part.text}", f"let wrong = not ({part.text})"):
+                reply = self.say(line)
+                if reply != [draw.told]:
+                    self.blame(f"{line}: {reply}, and not {draw.told}")
+        for name in NO_NAMES:
+            if self.say(f"let {name} = 1") != self.say(f"cell {name} span"):
+                self.blame(f"let {name} = 1 is not refused as the cell is")
+        for line in NO_DEFINITIONS:
+            if self.say(line) != ["error 4: wrong form"]:
+                self.blame(f"{line} is taken")
         if self.say("list") != before:
             self.blame("what was refused has left something")
+
+    def defined(self, draw: Draw, chance: Random) -> dict[str, Part]:
+        """Cells that are defined, of which those before may be parts. They are drawn from then on."""
+        parts: dict[str, Part] = {}
+        for k in range(chance.randint(0, 2)):
+            kind = chance.choice(sorted({"number", "truth", *draw.kinds.values()}))
+            part = draw.of_kind(kind, chance.randint(0, 2))
+            line = f"let d{k} = {part.text}"
+            reply = self.say(line)
+            if reply != ["ok"]:
+                self.blame(f"{line}: {reply}")
+                continue
+            parts[f"d{k}"] = part
+            draw.kinds[f"d{k}"] = kind
+        self.taken += len(parts)
+        return parts
 
     def required(self, draw: Draw, chance: Random) -> list[Required]:
         taken = []
@@ -376,16 +453,19 @@ class Session:
         self.taken += len(taken)
         return taken
 
-    def held(self, values: dict[str, list[Value]], required: list[Required], out: set[str]) -> None:
+    def held(
+        self,
+        values: dict[str, list[Value]],
+        defined: dict[str, Part],
+        required: list[Required],
+        out: set[str],
+    ) -> None:
         """Holds the rows that are told to those that there are."""
-        cells = list(values)
+        cells = [*values, *defined]
         wanted = {
-            row
-            for row in itertools.product(*(values[cell] for cell in cells))
-            if all(
-                it.premise in out or it.part.worth(dict(zip(cells, row))) == "yes"
-                for it in required
-            )
+            tuple(points.values())
+            for points in points_of(values, defined)
+            if all(it.premise in out or it.part.worth(points) == "yes" for it in required)
         }
         told: set[tuple[Value, ...]] = set()
         # (so that the rows are told from the first on)
@@ -453,7 +533,10 @@ REFUSED = [
     ("require under p", "error 4: wrong form"),
     ("require x < 1 under no", "error 5: not a name"),
     ("require x // x < 1", "error 6: not a number in range"),
-    ("require different(x, far)", "error 4: wrong form"),
+    ("require element(x; 1: 2, 3: 4) < 3", "error 4: wrong form"),
+    ("require different(x, t)", "error 13: wrong kind"),
+    ("require different(x, y)", "error 9: no such cell"),
+    ("require different()", "error 4: wrong form"),
     (f"require x < {'1' * 4090}", "error 1: line too long"),
     ("choose c x 1 or 2", "ok"),
     ("require x < 1 under c", "error 17: is a choice"),
@@ -462,6 +545,17 @@ REFUSED = [
     ("require\tt\tunder\tp \r", "ok"),
     ("ask x", "x = 2"),
     ("ask t", "t = yes"),
+    ("let y = x < 2 under p", "error 4: wrong form"),
+    ("let y = x + t", "error 13: wrong kind"),
+    ("let y = apr", "error 9: no such cell"),
+    (f"let y = x + {'1' * 4090}", "error 1: line too long"),
+    ("\tlet y = 2", "error 3: unknown command"),
+    ("let\ty=x + 1 \r", "ok"),
+    ("ask y", "y = 3"),
+    ("let kept = yes", "ok"),
+    ("let late = if t then m else feb", "ok"),
+    ("fix m jan", "ok"),
+    ("ask late", "late = jan"),
 ]
 
 

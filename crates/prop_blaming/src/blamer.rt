@@ -38,8 +38,8 @@ pub struct Blamer<R, O> {
 }
 
 impl<R: Guarded + Drop, O: Order + Drop> Blamer<R, O> {
-    ghost use Rattle.std.specs.Prelude.{◌≡◌, ◌⊎◌, ◌&&◌, List, ℕ, IfOk, IfSome, None, OnOk, codes};
-    ghost use Rattle.std.specs.Prelude.{cond, not, string_bytes};
+    ghost use Rattle.std.specs.Prelude.{◌≡◌, ◌⊎◌, ◌&&◌, List, ℕ, IfOk, IfSome, None, OnOk, Some};
+    ghost use Rattle.std.specs.Prelude.{codes, cond, not, string_bytes};
     ghost use Rattle.prop_language.specs.Reading.{AsRead};
     ghost use Rattle.prop_language.specs.Said.{words};
     ghost use Rattle.prop_engine.specs.Answers.{answer_of, Refused, Text};
@@ -98,7 +98,7 @@ impl<R: Guarded + Drop, O: Order + Drop> Blamer<R, O> {
     {
         let reply = self.seeker.command(line);
         if ends(&reply, line) {
-            self.explorer = None;
+            self.forget();
             return reply;
         }
         reply
@@ -123,7 +123,7 @@ impl<R: Guarded + Drop, O: Order + Drop> Blamer<R, O> {
         Ok(())
     }
 
-    /// Answers a question. After want of memory the search begins anew.
+    /// Answers a question.
     fn blame(&mut self, line: &[u8]) -> Reply
         requires ready { IsReady R.value_of self.old }
         ensures same { self.new.seeker ≡ self.old.seeker }
@@ -166,8 +166,7 @@ impl<R: Guarded + Drop, O: Order + Drop> Blamer<R, O> {
         }
     }
 
-    /// What is replied to what is asked. The search goes on with the next such question, or after
-    /// want of memory begins anew.
+    /// What is replied to what is asked. The search goes on with the next such question.
     fn answered(&mut self, asked: Asked) -> Result<String, AllocError>
         requires ready { IsReady R.value_of self.old }
         ensures same { self.new.seeker ≡ self.old.seeker }
@@ -177,11 +176,38 @@ impl<R: Guarded + Drop, O: Order + Drop> Blamer<R, O> {
             (state_of self.old.seeker.teller.session) (asked_of asked)
             (string_bytes text)) }
     {
+        self.explore(&asked)?;
+        match &self.explorer {
+            Some(explorer) => self.text(explorer, &asked),
+            None => Err(AllocError),
+        }
+    }
+
+    /// Goes on with the search, or begins one. After want of memory there is none.
+    fn explore(&mut self, asked: &Asked) -> Result<(), AllocError>
+        requires ready { IsReady R.value_of self.old }
+        ensures same { self.new.seeker ≡ self.old.seeker }
+        ensures ready { IsReady R.value_of self.new }
+    {
         let before = self.explorer.take();
-        let explorer = self.seeker.explore(before, wanted(&asked))?;
-        let text = self.text(&explorer, &asked)?;
-        self.explorer = Some(explorer);
-        Ok(text)
+        let explorer = self.seeker.explore(before, wanted(asked))?;
+        self.keep(explorer);
+        Ok(())
+    }
+
+    /// The next question goes on with this search.
+    fn keep(&mut self, explorer: Explorer)
+        ensures { self.new ≡ record self.old { explorer = Some explorer } }
+    {
+        // One call in place of the drop of each part, which a proof would go through one by one.
+        drop(self.explorer.replace(explorer));
+    }
+
+    /// The next question begins a search.
+    pub(crate) fn forget(&mut self)
+        ensures { self.new ≡ record self.old { explorer = None } }
+    {
+        drop(self.explorer.take());
     }
 
     /// What is replied of what was found.

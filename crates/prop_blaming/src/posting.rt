@@ -41,7 +41,7 @@ impl<R: Guarded + Drop, O: Order + Drop> Blamer<R, O> {
         if is_without_trace(&end) {
             return end;
         }
-        self.explorer = None;
+        self.forget();
         end
     }
 }

@@ -1,6 +1,6 @@
 -- Cells show whether something is one of the words in braces.
 use Rattle.std.proofs.Common.{◌≡◌, ◌∙◌, ℕ, ℤ, List, [], ◌∷◌, ◌++◌, Bool, true, false, ◌||◌, ◌⊎◌, inl, inr}
-use Rattle.std.proofs.Common.{Option, Some, None, refl, ap, sym, subst}
+use Rattle.std.proofs.Common.{Option, Some, refl, ap, sym, subst}
 use Rattle.std.specs.List.{list_any}
 use Rattle.std.proofs.lemmas.List.Folds.{list_any-append}
 use Rattle.prop_lattice.specs.Points.{Point}
@@ -8,17 +8,17 @@ use Rattle.prop_lattice.specs.Points as points
 use Rattle.prop_procedures.specs.declared.shape.Kinded.{Kinded}
 use Rattle.prop_terms.specs.declared.operators.Infix.{Infix}
 use Rattle.prop_terms.specs.declared.operators.Infix.TheVariants as between
-use Rattle.prop_terms.specs.Meaning.{Value, Whole, comparison, label, labels, truth, is_in, worth, is_same}
+use Rattle.prop_terms.specs.Meaning.{Value, Whole, comparison, label, labels, truth, is_in, worth}
 use Rattle.prop_terms.specs.Terms.{Term, Name, Number, One, Two, Braces}
 use Rattle.prop_meaning.specs.Words.{Lexicon, names_at, value_as}
 use Rattle.prop_meaning.specs.declared.draft.Made.{Made}
 use Rattle.prop_meaning.specs.declared.steps.Pair.TheVariants.{Same, Or}
-use Rattle.prop_meaning.specs.inner.Drafts.{Grown, Makes, Shows, Has, Runs, number_kind, truth_kind}
+use Rattle.prop_meaning.specs.inner.Drafts.{Grown, Makes, Shows, Has, number_kind, truth_kind}
 use Rattle.prop_meaning.specs.inner.Formulas.{is_list}
 use Rattle.prop_meaning.specs.inner.Lists.{Labels, is_among}
-use Rattle.prop_meaning.specs.inner.Steps.{truth_point, of_two, same_point}
+use Rattle.prop_meaning.specs.inner.Steps.{truth_point, of_two}
 use Rattle.prop_meaning.proofs.Formulas.{told, values_same}
-use Rattle.prop_meaning.proofs.Growing.{has_grows, is_proper, makes_grows, runs_back, shows_grows}
+use Rattle.prop_meaning.proofs.Growing.{has_grows, is_proper, runs_back, shows_grows}
 use Rattle.prop_meaning.proofs.Showing.{each_single}
 
 -- one word or number is a list by itself

@@ -1,10 +1,8 @@
 -- What divisions make of cells is good where no divisor is zero.
-use Rattle.std.proofs.Common.{◌≡◌, ◌∙◌, ℕ, ◌+◌, ℤ, pos, ◌-ℤ◌, ◌*ℤ◌, ◌≤ℤ◌, Bool, true, cond, List, length}
+use Rattle.std.proofs.Common.{◌≡◌, ◌∙◌, ℕ, ◌+◌, ℤ, pos, ◌-ℤ◌, ◌*ℤ◌, Bool, cond, List, length}
 use Rattle.std.proofs.Common.{Option, Some, None, refl, ap, sym, subst, arith, IsTrue}
 use Rattle.std.proofs.lemmas.Int.{ints}
 use Rattle.prop_lattice.specs.Points.{Point, Number, IsPointOf}
-use Rattle.prop_lattice.specs.declared.info.Kind.{Kind}
-use Rattle.prop_lattice.specs.declared.info.Kind.TheVariants.{Span as SpanKind}
 use Rattle.prop_lattice.specs.declared.span.Span as spans
 use Rattle.prop_procedures.specs.declared.shape.Kinded.{Kinded}
 use Rattle.prop_terms.specs.Meaning.{quotient}
@@ -19,7 +17,7 @@ use Rattle.prop_meaning.specs.inner.Drafts.{number_kind}
 use Rattle.prop_meaning.specs.inner.Spans.{HoldsQuotients, HoldsMultiples, HoldsLeft}
 use Rattle.prop_meaning.specs.inner.Steps.{of_two, number_or, quotient_point, remainder_point, may_leave, left_point}
 use Rattle.prop_meaning.specs.inner.Steps.{IsLeft}
-use Rattle.prop_meaning.proofs.Formulas.{on_number, on_numbers}
+use Rattle.prop_meaning.proofs.Formulas.{on_numbers}
 use Rattle.prop_meaning.proofs.Growing.{has_grows, is_point, is_proper, makes_grows, runs_back, stands_before}
 use Rattle.prop_meaning.proofs.Quotients.{divides, is_number, only_zero}
 use Rattle.prop_meaning.proofs.Ways.{on_three_numbers}

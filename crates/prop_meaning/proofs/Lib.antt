@@ -14,3 +14,5 @@ pub mod PowerLemmas
 pub mod Goodness
 pub mod DividingLemmas
 pub mod Naming
+pub mod Different
+pub mod ForeseeLemmas

@@ -1,6 +1,6 @@
 -- What operators make of lists is what these are worth.
-use Rattle.std.proofs.Common.{◌≡◌, ◌∙◌, ℕ, zero, suc, ℤ, pos, List, [], ◌∷◌, ◌++◌, Bool, true, false, cond, ◌+◌}
-use Rattle.std.proofs.Common.{Option, Some, None, refl, ap, sym, subst, arith, map, ◌+ℤ◌, ◌||◌, ◌==◌}
+use Rattle.std.proofs.Common.{◌≡◌, ◌∙◌, ℕ, suc, ℤ, pos, List, [], ◌∷◌, ◌++◌, Bool, true, false, cond, ◌+◌}
+use Rattle.std.proofs.Common.{Option, Some, None, refl, ap, sym, arith, map, ◌+ℤ◌}
 use Rattle.std.specs.Int.{int_max, int_min}
 use Rattle.std.specs.Option.{option_map, option_and_then}
 use Rattle.std.proofs.lemmas.List.{map-append}

@@ -1,21 +1,20 @@
 -- Cells of powers show what these are worth.
-use Rattle.std.proofs.Common.{◌≡◌, ◌∙◌, ℕ, zero, suc, ◌-◌, ◌≤◌, ℤ, pos, ◌*ℤ◌, List, Option, Some, refl, ap, sym}
+use Rattle.std.proofs.Common.{◌≡◌, ◌∙◌, ℕ, zero, suc, ◌-◌, ◌≤◌, ℤ, pos, ◌*ℤ◌, List, Some, refl, ap, sym}
 use Rattle.std.proofs.Common.{subst, arith}
 use Rattle.std.proofs.lemmas.Int.{ints}
-use Rattle.prop_lattice.specs.Points.{Point, Number, IsPointOf}
-use Rattle.prop_lattice.specs.declared.info.Kind.TheVariants.{Span as SpanKind}
+use Rattle.prop_lattice.specs.Points.{Number}
 use Rattle.prop_terms.specs.declared.operators.Infix.TheVariants as between
-use Rattle.prop_terms.specs.Meaning.{Value, of_one, power, worth}
+use Rattle.prop_terms.specs.Meaning.{of_one, power}
 use Rattle.prop_terms.specs.Terms as terms
 use Rattle.prop_terms.specs.Terms.{Term, Two}
-use Rattle.prop_meaning.specs.Words.{Lexicon, names_at, value_as}
+use Rattle.prop_meaning.specs.Words.{Lexicon, value_as}
 use Rattle.prop_meaning.specs.declared.draft.Made.{Made}
 use Rattle.prop_meaning.specs.declared.steps.Pair.TheVariants.{Product}
 use Rattle.prop_meaning.specs.inner.Drafts.{Grown, Has, IsSound, Makes, Shows, number_kind}
 use Rattle.prop_meaning.specs.inner.Formulas.{power_point}
 use Rattle.prop_meaning.specs.inner.Steps.{of_two}
 use Rattle.prop_meaning.proofs.Formulas.{on_number}
-use Rattle.prop_meaning.proofs.Growing.{has_grows, is_proper, makes_grows, runs_back, shows_grows}
+use Rattle.prop_meaning.proofs.Growing.{has_grows, is_proper, runs_back, shows_grows}
 
 -- the first powers
 pub makes_none : (lexicon : Lexicon) (made : List Made) (n x place : ℕ) → IsSound lexicon made

@@ -5,7 +5,7 @@ use Rattle.std.proofs.lemmas.Int.{ints, clamps}
 use Rattle.prop_lattice.specs.declared.span.Span as spans
 use Rattle.prop_intervals.specs.Spans.{least_product, greatest_product}
 use Rattle.prop_intervals.specs.laws.ProductLaws.{product_within}
-use Rattle.std.proofs.Common.{◌≤ℤ◌, ◌<ℤ◌, inl, inr, sym, subst}
+use Rattle.std.proofs.Common.{inl, inr, subst}
 use Rattle.prop_intervals.specs.laws.Relations.{IsInRange}
 use Rattle.prop_lattice.specs.Points.{Number, Holds}
 use Rattle.prop_lattice.specs.declared.info.Info.{Info}
@@ -13,7 +13,7 @@ use Rattle.prop_lattice.specs.declared.info.Info.TheVariants.{Span as SpanInfo}
 use Rattle.prop_lattice.specs.declared.span.TheConstants.{B}
 use Rattle.prop_terms.specs.Meaning.{quotient}
 use Rattle.prop_terms.proofs.Rounding.{rounded_down}
-use Rattle.prop_wide.specs.Quotients.{IsQuotient, IsRemainder, quotient_of}
+use Rattle.prop_wide.specs.Quotients.{IsRemainder, quotient_of}
 use Rattle.prop_wide.specs.laws.QuotientLaws.{quotient_sound}
 use Rattle.prop_meaning.specs.Words.{Lies}
 use Rattle.prop_meaning.specs.inner.Spans.{HoldsOne, HoldsTwo, HoldsLeft, HoldsMultiples, HoldsQuotients}

@@ -7,7 +7,7 @@ use Rattle.std.specs.List.{AllByRecursion}
 use Rattle.std.proofs.lemmas.Int.{ints, by_lt_z}
 use lib.IntN.{*ℤ_comm}
 use Rattle.prop_intervals.specs.laws.QuotientLaws.{product-add, product-le, product-ge}
-use Rattle.prop_lattice.specs.Points.{Point, Number, Element, Symbol, IsPointOf}
+use Rattle.prop_lattice.specs.Points.{Point, Number, IsPointOf}
 use Rattle.prop_lattice.specs.declared.info.Kind.TheVariants.{Span as SpanKind}
 use Rattle.prop_lattice.specs.declared.span.TheConstants.{B}
 use Rattle.prop_procedures.specs.declared.shape.Param.{Param}
@@ -26,7 +26,7 @@ use Rattle.prop_meaning.specs.inner.Expanding.{quotient_acts, left_acts}
 use Rattle.prop_meaning.specs.inner.Steps.{number_or, quotient_point, remainder_point, may_leave, left_point, IsLeft}
 use Rattle.prop_meaning.specs.inner.Steps.{of_two}
 use Rattle.prop_meaning.specs.inner.Drafts.{number_kind}
-use Rattle.prop_meaning.proofs.Formulas.{on_number, on_numbers}
+use Rattle.prop_meaning.proofs.Formulas.{on_numbers}
 use Rattle.prop_meaning.proofs.Ways.{on_three_numbers}
 
 -- ---- one quotient

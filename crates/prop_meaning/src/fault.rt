@@ -21,7 +21,7 @@ pub enum Why {
     MayBeZero,
     /// It stands where none of its form may.
     WrongForm,
-    /// It is an expression that can't be posted yet: `different`, `element` or `in` a relation.
+    /// It is an expression that can't be posted yet: `element` or `in` a relation.
     NotYet,
 }
 

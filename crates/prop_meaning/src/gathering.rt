@@ -1,5 +1,6 @@
 //! Cells of what operators make of lists.
-ghost use Rattle.std.specs.Prelude.{◌≡◌, IfOk, OnOk};
+ghost use Rattle.std.specs.Prelude.{◌≡◌, IfOk, OnOk, IsTrue};
+ghost use Rattle.prop_terms.specs.declared.operators.Prefix.TheVariants.{Different};
 ghost use Rattle.prop_meaning.specs.inner.Drafts.{Has, IsSound, Grown, Makes};
 ghost use Rattle.prop_meaning.specs.inner.Drafts.{number_kind, truth_kind};
 ghost use Rattle.prop_meaning.specs.inner.Lists.{is_gathering, kind_within, pair_of, counted};
@@ -19,6 +20,13 @@ pub(crate) fn is_gathering(op: Prefix) -> bool
     ensures { result ≡ is_gathering op }
 {
     matches!(op, Prefix::Max | Prefix::Min | Prefix::Sum | Prefix::Count)
+}
+
+/// Whether an operator says of a list that no two in it are equal.
+pub(crate) fn is_different(op: Prefix) -> bool
+    ensures { IsTrue result → (op ≡ Different) }
+{
+    matches!(op, Prefix::Different)
 }
 
 /// The kind of what stands in an operator's list.

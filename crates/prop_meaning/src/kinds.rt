@@ -80,6 +80,17 @@ fn kind_of_both<W: Words>(words: &W, left: &Term<'_>, right: &Term<'_>) -> Resul
     }
 }
 
+/// The kind of the terms between commas, or of the one that there is, by the first that shows it.
+pub(crate) fn kind_of_some<W: Words>(words: &W, list: &Term<'_>) -> Option<Kinded> {
+    match list {
+        Term::Two(Infix::Comma, others, last) => match kind_of_some(words, others) {
+            Some(kinded) => Some(kinded),
+            None => kind_of_term(words, last),
+        },
+        term => kind_of_term(words, term),
+    }
+}
+
 /// Of which kind both sides of an operator are to be.
 pub(crate) fn sides<W: Words>(
     words: &W,

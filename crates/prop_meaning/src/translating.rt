@@ -2,8 +2,11 @@
 ghost use Rattle.std.specs.Prelude.{◌≡◌, IfOk, OnOk, IsTrue};
 ghost use Rattle.prop_terms.specs.Terms as terms;
 ghost use Rattle.prop_terms.specs.Terms.{term_of};
-ghost use Rattle.prop_meaning.specs.inner.Drafts.{IsSound, Grown, Shows, number_kind};
-ghost use Rattle.prop_meaning.specs.inner.Lists.{is_gathering};
+ghost use Rattle.prop_meaning.specs.inner.Drafts.{Has, IsSound, Grown, Shows, number_kind};
+ghost use Rattle.prop_meaning.specs.inner.Drafts.{truth_kind};
+ghost use Rattle.prop_meaning.specs.inner.Lists.{is_gathering, different_of, unequal_to};
+ghost use Rattle.prop_meaning.specs.inner.Lists.{ShowsWith};
+ghost use Rattle.prop_terms.specs.declared.operators.Infix.TheVariants.{Equal, Unequal};
 
 use crate::braces::among;
 use crate::combining::{
@@ -13,8 +16,8 @@ use crate::combining::{
 use crate::constants::{name, number};
 use crate::draft::Made;
 use crate::fault::{Fault, Why};
-use crate::gathering::{alone, gathered, is_gathering, kind_within};
-use crate::kinds::{kind_of_term, sides};
+use crate::gathering::{alone, gathered, is_different, is_gathering, kind_within};
+use crate::kinds::{kind_of_some, kind_of_term, sides};
 use crate::making::{NUMBER, TRUTH, choice, is_same_kind};
 use crate::powers::{is_power, power};
 use crate::words::Words;
@@ -133,6 +136,9 @@ fn before_one<'t, 'a, W: Words>(
     }
     if is_gathering(*op) {
         return of_list(words, made, term, kinded);
+    }
+    if matches!(*op, Prefix::Different) {
+        return all_different(words, made, term, kinded);
     }
     if !is_taken(*op) {
         return Err(Fault {
@@ -379,5 +385,152 @@ fn listed<'t, 'a, W: Words>(
     match gathered(words, made, op, x, y) {
         Ok(place) => Ok(place),
         Err(why) => Err(Fault { why, part: list }),
+    }
+}
+
+/// The same of whether no two of several are equal.
+#[cycle(translating)]
+fn all_different<'t, 'a, W: Words>(
+    words: &W,
+    made: &mut Vec<Made>,
+    term: &'t Term<'a>,
+    kinded: Kinded,
+) -> Result<usize, Fault<'t, 'a>>
+    requires sound { IsSound (W.lexicon words.now) made.old.items }
+    ensures grown { OnOk result (Grown (W.lexicon words.now) made.old.items made.new.items) }
+    ensures shows { IfOk result
+        (Shows (W.lexicon words.now) made.new.items kinded (term_of term.now)) }
+{
+    let wrong = Fault {
+        why: Why::WrongForm,
+        part: term,
+    };
+    let Term::One(op, list) = term else {
+        return Err(wrong);
+    };
+    if !is_different(*op) {
+        return Err(wrong);
+    }
+    if !is_same_kind(TRUTH, kinded) {
+        return Err(Fault {
+            why: Why::WrongKind,
+            part: term,
+        });
+    }
+    let Some(both) = kind_of_some(words, list) else {
+        return Err(Fault {
+            why: Why::NoSuchCell,
+            part: list,
+        });
+    };
+    differing(words, made, list, both)
+}
+
+/// The cell of whether no two of the terms between commas are equal.
+#[cycle(translating)]
+fn differing<'t, 'a, W: Words>(
+    words: &W,
+    made: &mut Vec<Made>,
+    list: &'t Term<'a>,
+    both: Kinded,
+) -> Result<usize, Fault<'t, 'a>>
+    requires sound { IsSound (W.lexicon words.now) made.old.items }
+    ensures grown { OnOk result (Grown (W.lexicon words.now) made.old.items made.new.items) }
+    ensures shows { IfOk result (Shows (W.lexicon words.now) made.new.items truth_kind
+        (different_of (term_of list.now))) }
+{
+    if !is_list(list) {
+        return itself(words, made, list, both);
+    }
+    let Term::Two(_comma, others, last) = list else {
+        return Err(Fault {
+            why: Why::WrongForm,
+            part: list,
+        });
+    };
+    let y = translated(words, made, last, both)?;
+    if !is_list(others) {
+        return apart(words, made, others, y, both);
+    }
+    let x = differing(words, made, others, both)?;
+    let z = apart(words, made, others, y, both)?;
+    match combined(words, made, Infix::And, x, z) {
+        Ok(place) => Ok(place),
+        Err(why) => Err(Fault { why, part: list }),
+    }
+}
+
+/// The cell of whether a term is worth what it is worth: `yes`, since it has a value.
+#[cycle(translating)]
+fn itself<'t, 'a, W: Words>(
+    words: &W,
+    made: &mut Vec<Made>,
+    term: &'t Term<'a>,
+    both: Kinded,
+) -> Result<usize, Fault<'t, 'a>>
+    requires sound { IsSound (W.lexicon words.now) made.old.items }
+    ensures grown { OnOk result (Grown (W.lexicon words.now) made.old.items made.new.items) }
+    ensures shows { IfOk result (Shows (W.lexicon words.now) made.new.items truth_kind
+        (terms.Two Equal (term_of term.now) (term_of term.now))) }
+{
+    let x = translated(words, made, term, both)?;
+    match combined(words, made, Infix::Equal, x, x) {
+        Ok(place) => Ok(place),
+        Err(why) => Err(Fault { why, part: term }),
+    }
+}
+
+/// The cell of whether each of the terms between commas, or the one that there is, is unequal to
+/// what the cell at a place shows.
+#[cycle(translating)]
+fn apart<'t, 'a, W: Words>(
+    words: &W,
+    made: &mut Vec<Made>,
+    list: &'t Term<'a>,
+    y: usize,
+    both: Kinded,
+) -> Result<usize, Fault<'t, 'a>>
+    requires sound { IsSound (W.lexicon words.now) made.old.items }
+    requires has { Has (W.lexicon words.now) made.old.items y both }
+    ensures grown { OnOk result (Grown (W.lexicon words.now) made.old.items made.new.items) }
+    ensures shows { IfOk result (ShowsWith (W.lexicon words.now) made.old.items made.new.items both
+        (unequal_to (term_of list.now)) y) }
+{
+    if !is_list(list) {
+        return unequal(words, made, list, y, both);
+    }
+    let Term::Two(_comma, others, last) = list else {
+        return Err(Fault {
+            why: Why::WrongForm,
+            part: list,
+        });
+    };
+    let x = apart(words, made, others, y, both)?;
+    let z = unequal(words, made, last, y, both)?;
+    match combined(words, made, Infix::And, x, z) {
+        Ok(place) => Ok(place),
+        Err(why) => Err(Fault { why, part: list }),
+    }
+}
+
+/// The cell of whether a term is unequal to what the cell at a place shows.
+#[cycle(translating)]
+fn unequal<'t, 'a, W: Words>(
+    words: &W,
+    made: &mut Vec<Made>,
+    term: &'t Term<'a>,
+    y: usize,
+    both: Kinded,
+) -> Result<usize, Fault<'t, 'a>>
+    requires sound { IsSound (W.lexicon words.now) made.old.items }
+    requires has { Has (W.lexicon words.now) made.old.items y both }
+    ensures grown { OnOk result (Grown (W.lexicon words.now) made.old.items made.new.items) }
+    ensures shows { IfOk result (ShowsWith (W.lexicon words.now) made.old.items made.new.items both
+        (terms.Two Unequal (term_of term.now)) y) }
+{
+    let x = translated(words, made, term, both)?;
+    match combined(words, made, Infix::Unequal, x, y) {
+        Ok(place) => Ok(place),
+        Err(why) => Err(Fault { why, part: term }),
     }
 }

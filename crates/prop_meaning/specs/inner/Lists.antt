@@ -1,18 +1,19 @@
 -- What operators make of lists, and of words in braces.
-use Rattle.std.specs.Prelude.{◌≡◌, ℕ, pos, List, Bool, true, false, Option, Some}
+use Rattle.std.specs.Prelude.{◌≡◌, ℕ, pos, List, Bool, true, false, cond, Option, Some}
 use Rattle.std.specs.List.{list_any}
 use Rattle.prop_lattice.specs.Points.{Point, Number}
 use Rattle.prop_procedures.specs.declared.shape.Kinded.{Kinded}
 use Rattle.prop_terms.specs.Meaning.{Value, comparison, label}
-use Rattle.prop_terms.specs.Terms.{Term}
-use Rattle.prop_terms.specs.declared.operators.Infix.TheVariants.{Equal}
+use Rattle.prop_terms.specs.Terms.{Term, Two}
+use Rattle.prop_terms.specs.declared.operators.Infix.TheVariants.{And, Comma, Equal, Unequal}
 use Rattle.prop_terms.specs.declared.operators.Prefix.{Prefix}
 use Rattle.prop_terms.specs.declared.operators.Prefix.TheVariants.{Max, Min, Sum, Count}
 use Rattle.prop_meaning.specs.Words.{Lexicon, value_as}
 use Rattle.prop_meaning.specs.declared.draft.Made.{Made}
 use Rattle.prop_meaning.specs.declared.steps.Pair as pairs
 use Rattle.prop_meaning.specs.declared.steps.Pair.TheVariants as two
-use Rattle.prop_meaning.specs.inner.Drafts.{Has, Runs, number_kind, truth_kind}
+use Rattle.prop_meaning.specs.inner.Drafts.{Has, Runs, Shows, number_kind, truth_kind}
+use Rattle.prop_meaning.specs.inner.Formulas.{is_list}
 use Rattle.prop_meaning.specs.inner.Steps.{of_two, chosen}
 
 -- ---- lists
@@ -46,6 +47,25 @@ alone op p = p
 -- what an operator makes of a list: p is what it made of all terms but the last, and q is the last
 abbrev pub gathered : Prefix → Point → Point → Point
 gathered op p q = of_two (pair_of op) p (alone op q)
+
+-- ---- values that all differ
+
+-- those between commas are each unequal to the other term
+abbrev pub unequal_to : Term → Term → Term
+unequal_to (Two Comma t u) with = Two And (unequal_to t with) (Two Unequal u with)
+unequal_to t with = Two Unequal t with
+
+-- of those between commas no two are equal; one alone is what it is
+abbrev pub different_of : Term → Term
+different_of (Two Comma t u) =
+    cond (is_list t) (Two And (different_of t) (unequal_to t u)) (unequal_to t u)
+different_of t = Two Equal t t
+
+-- the cell at the place is a truth, and it shows what f makes of any term that the cell y showed
+pub record ShowsWith (lexicon : Lexicon) (olds news : List Made) (kinded : Kinded)
+    (f : Term → Term) (y place : ℕ) : Type 0 where
+  pub has : Has lexicon news place truth_kind
+  pub of_it : (u : Term) → Shows lexicon olds kinded u y → Shows lexicon news truth_kind (f u) place
 
 -- ---- words in braces
 

@@ -1,4 +1,3 @@
-use Rattle.std.proofs.Common.{ℕ}
 use Rattle.prop_meaning.specs.inner.Drafts.{number_kind}
 use Rattle.prop_meaning.specs.inner.Steps.{quotient_point}
 use Rattle.prop_meaning.proofs.DividingLemmas.{leaves_there, makes_remainder}

@@ -1,4 +1,4 @@
-use Rattle.std.proofs.Common.{◌≡◌, Some, IfSome, subst, sym}
+use Rattle.std.proofs.Common.{◌≡◌, IfSome, subst}
 use Rattle.prop_meaning.specs.inner.Drafts.{LiesAt}
 use Rattle.prop_meaning.specs.inner.Spans.{HoldsLeft}
 use Rattle.prop_meaning.proofs.DividingLemmas.{good_left}

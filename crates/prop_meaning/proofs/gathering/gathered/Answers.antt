@@ -1,5 +1,4 @@
-use Rattle.std.proofs.Common.{◌≡◌, ℕ, sym, subst}
-use Rattle.prop_lattice.specs.Points.{Point}
+use Rattle.std.proofs.Common.{sym, subst}
 use Rattle.prop_procedures.specs.declared.shape.Kinded.{Kinded}
 use Rattle.prop_meaning.specs.declared.steps.Pair.{Pair}
 use Rattle.prop_meaning.specs.inner.Drafts.{Makes, TakesTwo, kind_between, number_kind}

@@ -1,10 +1,14 @@
-use Rattle.std.proofs.Common.{◌≡◌, ◌∙◌, true, false, ap, sym, subst}
+use Rattle.std.proofs.Common.{◌≡◌, ◌∙◌, true, false, cond, ap, refl, sym, subst}
+use Rattle.std.proofs.lemmas.Result.{IfOk-weaker}
 use Rattle.prop_terms.specs.Terms.{Number, One, Two, Braces, term_of}
-use Rattle.prop_terms.specs.declared.operators.Prefix.TheVariants.{If}
-use Rattle.prop_terms.specs.declared.operators.Infix.TheVariants.{Then, Else, In, UpTo, Power}
+use Rattle.prop_terms.specs.declared.operators.Prefix.TheVariants.{If, Different}
+use Rattle.prop_terms.specs.declared.operators.Infix.TheVariants.{And, Then, Else, In, UpTo, Power, Unequal}
 use Rattle.prop_meaning.specs.inner.Drafts.{Shows, number_kind, truth_kind}
 use Rattle.prop_meaning.specs.inner.Formulas as formulas
-use Rattle.prop_meaning.proofs.Growing.{both_ok, grown_trans, has_grows, on_ok}
+use Rattle.prop_meaning.specs.inner.Lists.{unequal_to, different_of}
+use Rattle.prop_meaning.proofs.Different.{shows_both, shows_different, shows_itself, shows_unequal}
+use Rattle.prop_meaning.proofs.Different.{unequal_alone}
+use Rattle.prop_meaning.proofs.Growing.{both_ok, grown_trans, has_grows, on_ok, shows_grows}
 use Rattle.prop_meaning.proofs.BraceLemmas.{shows_words}
 use Rattle.prop_meaning.proofs.Lists.{is_comma, shows_alone, shows_gathered}
 use Rattle.prop_meaning.proofs.PowerLemmas.{shows_power}
@@ -229,3 +233,163 @@ listed-returns-in-Ok-gathered-clause-shows g t c =
     c.requires.gathers c.in_ok-x-2.ensures.shows c.in_ok-y.ensures.grown
     (subst (λ k. Shows lexicon second k last c.in_ok-y.y) c.kind_within-2.ensures c.in_ok-y.ensures.shows)
     c.in-Ok-gathered.ensures.grown c.in-Ok-gathered.ensures.makes)
+
+pub all_different-returns-clause-shows : goal.all_different-returns-clause-shows
+all_different-returns-clause-shows g t c =
+    let lexicon = g.W.Words.lexicon c.args.words.now in
+    let new = c.differing.new.made.items in
+    let list = term_of c.deref-2.result.now in
+    let op : c.in-One.op ≡ Different = c.is_different.ensures c.if-not-is_different.false in
+    let whole : term_of c.args.term.now ≡ One Different list = ap term_of c.in-One.is
+    ∙ (ap (λ o. One o (term_of c.in-One.list.value)) op ∙ ap (λ u. One Different (term_of u)) (sym c.deref-2.ensures)) in
+    let kind : truth_kind ≡ c.args.kinded = c.is_same_kind.ensures c.if-not-is_same_kind.false in
+    IfOk-weaker c.differing.result _ _ (λ place s.
+    subst (λ k. Shows lexicon new k (term_of c.args.term.now) place) kind
+    (subst (λ u. Shows lexicon new truth_kind u place) (sym whole) (shows_different lexicon new list place s)))
+    c.differing.ensures.shows
+
+pub itself-returns-in-Ok-clause-shows : goal.itself-returns-in-Ok-clause-shows
+itself-returns-in-Ok-clause-shows g t c =
+    shows_itself (g.W.Words.lexicon c.args.words.now) c.args.both (term_of c.args.term.now) c.in_ok-x.x c.in-Ok.place
+    c.translated.new.made.items c.combined.new.made.items c.in_ok-x.ensures.grown.sound c.in_ok-x.ensures.shows
+    c.in-Ok.ensures.grown c.in-Ok.ensures.makes
+
+pub unequal-returns-in-Ok-clause-shows : goal.unequal-returns-in-Ok-clause-shows
+unequal-returns-in-Ok-clause-shows g t c = record {
+  has = c.in-Ok.ensures.makes.has;
+  of_it = λ u fu.
+      shows_unequal (g.W.Words.lexicon c.args.words.now) c.args.both (term_of c.args.term.now) u c.in_ok-x.x c.args.y
+      c.in-Ok.place c.args.made.now.items c.translated.new.made.items c.combined.new.made.items fu
+      c.in_ok-x.ensures.grown c.in_ok-x.ensures.shows c.in-Ok.ensures.grown c.in-Ok.ensures.makes;
+}
+
+pub apart-returns-then-not-is_list-clause-shows : goal.apart-returns-then-not-is_list-clause-shows
+apart-returns-then-not-is_list-clause-shows g t c =
+    let lexicon = g.W.Words.lexicon c.args.words.now in
+    let list = term_of c.args.list.now in
+    let new = c.unequal.new.made.items in
+    let single : formulas.is_list list ≡ false = sym c.is_list.ensures ∙ c.if-not-is_list.true in
+    IfOk-weaker c.unequal.result _ _ (λ place s. record {
+      has = s.has;
+      of_it = λ u fu. subst (λ v. Shows lexicon new truth_kind v place) (sym (unequal_alone list u single))
+          (s.of_it u fu);
+    }) c.unequal.ensures.shows
+
+pub apart-combined-requires-clause-suits : goal.apart-combined-requires-clause-suits
+apart-combined-requires-clause-suits g t c =
+    let lexicon = g.W.Words.lexicon c.args.words.now in
+    let has = has_grows lexicon c.apart.new.made.items c.unequal-2.new.made.items c.in_ok-x.x truth_kind
+    c.in_ok-z.ensures.grown.grows c.in_ok-x.ensures.shows.has in
+    (truth_kind, refl, has, c.in_ok-z.ensures.shows.has)
+
+pub apart-returns-in-Ok-clause-grown : goal.apart-returns-in-Ok-clause-grown
+apart-returns-in-Ok-clause-grown g t c =
+    let lexicon = g.W.Words.lexicon c.args.words.now in
+    let first = c.apart.new.made.items in
+    let second = c.unequal-2.new.made.items in
+    let third = c.combined.new.made.items in
+    grown_trans lexicon c.args.made.now.items first third c.in_ok-x.ensures.grown
+    (grown_trans lexicon first second third c.in_ok-z.ensures.grown c.in-Ok.ensures.grown)
+
+pub apart-returns-in-Ok-clause-shows : goal.apart-returns-in-Ok-clause-shows
+apart-returns-in-Ok-clause-shows g t c =
+    let lexicon = g.W.Words.lexicon c.args.words.now in
+    let outer = c.in-Two in
+    let others = term_of c.deref.result.now in
+    let last = term_of c.deref-2.result.now in
+    let old = c.args.made.now.items in
+    let first = c.apart.new.made.items in
+    let second = c.unequal-2.new.made.items in
+    let third = c.combined.new.made.items in
+    let place = c.in-Ok.place in
+    let parts : term_of c.args.list.now ≡ Two outer._comma others last = ap term_of outer.is
+    ∙ (ap (λ u. Two outer._comma (term_of u) (term_of outer.last.value)) (sym c.deref.ensures)
+    ∙ ap (λ u. Two outer._comma others (term_of u)) (sym c.deref-2.ensures)) in
+    let comma = is_comma outer._comma others last
+    (ap formulas.is_list (sym parts) ∙ (sym c.is_list.ensures ∙ c.if-not-is_list.false)) in
+    record {
+      has = c.in-Ok.ensures.makes.has;
+      of_it = λ u fu. subst (λ v. Shows lexicon third truth_kind (unequal_to v u) place)
+          (sym (parts ∙ ap (λ o. Two o others last) comma))
+          (shows_both lexicon (unequal_to others u) (Two Unequal last u) c.in_ok-x.x c.in_ok-z.z place first second third
+          (c.in_ok-x.ensures.shows.of_it u fu) c.in_ok-z.ensures.grown
+          (c.in_ok-z.ensures.shows.of_it u
+          (shows_grows lexicon old first c.args.both u c.args.y c.in_ok-x.ensures.grown fu))
+          c.in-Ok.ensures.grown c.in-Ok.ensures.makes);
+    }
+
+pub differing-returns-then-not-is_list-2-clause-grown :
+    goal.differing-returns-then-not-is_list-2-clause-grown
+differing-returns-then-not-is_list-2-clause-grown g t c = on_ok c.apart.result _ _ c.apart.ensures.grown (λ grown.
+    grown_trans (g.W.Words.lexicon c.args.words.now) c.args.made.now.items c.translated.new.made.items
+    c.apart.new.made.items c.in_ok-y.ensures.grown grown)
+
+pub differing-returns-then-not-is_list-2-clause-shows :
+    goal.differing-returns-then-not-is_list-2-clause-shows
+differing-returns-then-not-is_list-2-clause-shows g t c =
+    let lexicon = g.W.Words.lexicon c.args.words.now in
+    let outer = c.in-Two in
+    let others = term_of c.deref-then-not-is_list-2.result.now in
+    let last = term_of c.deref.result.now in
+    let new = c.apart.new.made.items in
+    let single : formulas.is_list others ≡ false =
+    ap (λ u. formulas.is_list (term_of u)) (c.deref-then-not-is_list-2.ensures ∙ sym c.deref-2.ensures)
+    ∙ (sym c.is_list-2.ensures ∙ c.if-not-is_list-2.true) in
+    let parts : term_of c.args.list.now ≡ Two outer._comma others last = ap term_of outer.is
+    ∙ (ap (λ u. Two outer._comma (term_of u) (term_of outer.last.value)) (sym c.deref-then-not-is_list-2.ensures)
+    ∙ ap (λ u. Two outer._comma others (term_of u)) (sym c.deref.ensures)) in
+    let comma = is_comma outer._comma others last
+    (ap formulas.is_list (sym parts) ∙ (sym c.is_list.ensures ∙ c.if-not-is_list.false)) in
+    IfOk-weaker c.apart.result _ _ (λ place s. subst (λ v. Shows lexicon new truth_kind (different_of v) place)
+    (sym (parts ∙ ap (λ o. Two o others last) comma)) (subst
+    (λ b. Shows lexicon new truth_kind (cond b (Two And (different_of others) (unequal_to others last))
+    (unequal_to others last)) place) (sym single) (s.of_it last c.in_ok-y.ensures.shows))) c.apart.ensures.shows
+
+pub differing-combined-requires-clause-suits : goal.differing-combined-requires-clause-suits
+differing-combined-requires-clause-suits g t c =
+    let lexicon = g.W.Words.lexicon c.args.words.now in
+    let has = has_grows lexicon c.differing.new.made.items c.apart-2.new.made.items c.in_ok-x.x truth_kind
+    c.in_ok-z.ensures.grown.grows c.in_ok-x.ensures.shows.has in
+    (truth_kind, refl, has, c.in_ok-z.ensures.shows.has)
+
+pub differing-returns-in-Ok-clause-grown : goal.differing-returns-in-Ok-clause-grown
+differing-returns-in-Ok-clause-grown g t c =
+    let lexicon = g.W.Words.lexicon c.args.words.now in
+    let first = c.translated.new.made.items in
+    let second = c.differing.new.made.items in
+    let third = c.apart-2.new.made.items in
+    let fourth = c.combined.new.made.items in
+    grown_trans lexicon c.args.made.now.items first fourth c.in_ok-y.ensures.grown
+    (grown_trans lexicon first second fourth c.in_ok-x.ensures.grown
+    (grown_trans lexicon second third fourth c.in_ok-z.ensures.grown c.in-Ok.ensures.grown))
+
+pub differing-returns-in-Ok-clause-shows : goal.differing-returns-in-Ok-clause-shows
+differing-returns-in-Ok-clause-shows g t c =
+    let lexicon = g.W.Words.lexicon c.args.words.now in
+    let outer = c.in-Two in
+    let others = term_of c.deref-3.result.now in
+    let last = term_of c.deref.result.now in
+    let first = c.translated.new.made.items in
+    let second = c.differing.new.made.items in
+    let third = c.apart-2.new.made.items in
+    let fourth = c.combined.new.made.items in
+    let place = c.in-Ok.place in
+    let several : formulas.is_list others ≡ true =
+    ap (λ u. formulas.is_list (term_of u)) (c.deref-3.ensures ∙ sym c.deref-2.ensures)
+    ∙ (sym c.is_list-2.ensures ∙ c.if-not-is_list-2.false) in
+    let same : term_of c.deref-4.result.now ≡ others = ap term_of (c.deref-4.ensures ∙ sym c.deref-3.ensures) in
+    let parts : term_of c.args.list.now ≡ Two outer._comma others last = ap term_of outer.is
+    ∙ (ap (λ u. Two outer._comma (term_of u) (term_of outer.last.value)) (sym c.deref-3.ensures)
+    ∙ ap (λ u. Two outer._comma others (term_of u)) (sym c.deref.ensures)) in
+    let comma = is_comma outer._comma others last
+    (ap formulas.is_list (sym parts) ∙ (sym c.is_list.ensures ∙ c.if-not-is_list.false)) in
+    let shown = shows_grows lexicon first second c.args.both last c.in_ok-y.y c.in_ok-x.ensures.grown
+    c.in_ok-y.ensures.shows in
+    let apart = subst (λ v. Shows lexicon third truth_kind (unequal_to v last) c.in_ok-z.z) same
+    (c.in_ok-z.ensures.shows.of_it last shown) in
+    subst (λ v. Shows lexicon fourth truth_kind (different_of v) place)
+    (sym (parts ∙ ap (λ o. Two o others last) comma)) (subst
+    (λ b. Shows lexicon fourth truth_kind (cond b (Two And (different_of others) (unequal_to others last))
+    (unequal_to others last)) place) (sym several)
+    (shows_both lexicon (different_of others) (unequal_to others last) c.in_ok-x.x c.in_ok-z.z place second third fourth
+    c.in_ok-x.ensures.shows c.in_ok-z.ensures.grown apart c.in-Ok.ensures.grown c.in-Ok.ensures.makes))

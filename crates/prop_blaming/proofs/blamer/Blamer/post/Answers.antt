@@ -5,6 +5,7 @@ use Rattle.prop_workbench.specs.Sessions.{state_of}
 use Rattle.prop_workbench.specs.inner.Effects.{name_of}
 use Rattle.prop_telling.proofs.PostingLemmas.{no_trace}
 use Rattle.prop_seeking.specs.inner.Explored.{ground_in}
+use Rattle.prop_blaming.specs.inner.Blamers.{IsReady}
 use Rattle.prop_blaming.proofs.StayLemmas.{stayed_explored}
 use Rattle.prop_blaming.proofs.blamer.Blamer.post.Goals as goal
 
@@ -34,4 +35,5 @@ returns-then-is_without_trace-clause-ready g c =
     }
 
 pub returns-clause-ready : goal.returns-clause-ready
-returns-clause-ready g c = record { seeker = c.post-end.ensures.ready; explored = tt }
+returns-clause-ready g c = subst (λ b. IsReady g.R.Rule.value_of b) (sym c.forget.ensures)
+    (record { seeker = c.post-end.ensures.ready; explored = tt })

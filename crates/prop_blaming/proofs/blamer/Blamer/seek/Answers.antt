@@ -7,6 +7,7 @@ use Rattle.prop_seeking.specs.Asking.{begins}
 use Rattle.prop_seeking.specs.inner.Seekers.{sought_of}
 use Rattle.prop_seeking.proofs.LimitLemmas.{calm_line}
 use Rattle.prop_seeking.specs.inner.Explored.{ground_in}
+use Rattle.prop_blaming.specs.inner.Blamers.{IsReady}
 use Rattle.prop_blaming.proofs.StayLemmas.{seeking_stays, stayed_explored}
 use Rattle.prop_blaming.proofs.blamer.Blamer.seek.Goals as goal
 
@@ -36,4 +37,5 @@ returns-clause-ready g c =
     }
 
 pub returns-then-ends-clause-ready : goal.returns-then-ends-clause-ready
-returns-then-ends-clause-ready g c = record { seeker = c.command-reply.ensures.ready; explored = tt }
+returns-then-ends-clause-ready g c = subst (λ b. IsReady g.R.Rule.value_of b) (sym c.forget.ensures)
+    (record { seeker = c.command-reply.ensures.ready; explored = tt })
