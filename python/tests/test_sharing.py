@@ -11,7 +11,7 @@ from propbench.model import truths
 from propbench.model.expressions import Truth
 from propbench.model.meaning import holds
 from propbench.model.nodes import Op, number
-from propbench.model.sharing import Shared, Use
+from propbench.model.sharing import Shared, TaskUse
 from propbench.planning import Project
 from propbench.words import MOST_BYTES
 
@@ -130,7 +130,7 @@ def test_what_it_means_and_its_parts_are_the_same(
     with Workbench() as w:
         cells = [w.number(f"x{at}", 0, 4) for at in range(6)]
         uses = [
-            Use(start.node, length.node, draw.randint(1, 3))
+            TaskUse(start.node, length.node, draw.randint(1, 3))
             for start, length in zip(cells[::2], cells[1::2])
         ]
         shared = Shared(draw.randint(1, 4), tuple(uses))
@@ -152,7 +152,7 @@ def test_it_may_be_denied_and_be_one_of_several(wide: str, monkeypatch: pytest.M
     monkeypatch.setenv("PROPBENCH", wide)
     with Workbench() as w:
         starts = [w.number(f"s{at}", 0, 2) for at in range(3)]
-        uses = [Use(start.node, number(2), 1) for start in starts]
+        uses = [TaskUse(start.node, number(2), 1) for start in starts]
         room = Truth(Shared(2, tuple(uses)).room())
         is_full = w.truth("is full")
         w.require(is_full == ~room)

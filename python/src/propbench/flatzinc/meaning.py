@@ -23,7 +23,7 @@ from propbench.model.expressions import (
     maximum,
     minimum,
 )
-from propbench.model.sharing import Shared, Use
+from propbench.model.sharing import Shared, TaskUse
 
 # What all differ are looked at so many at a time, beside any two of them.
 _AT_ONCE = 8
@@ -193,7 +193,7 @@ def differing(values: Sequence[Expression | str]) -> Truth:
 def _has_room(terms: Terms, args: Args) -> Truth:
     """That tasks which run at once need no more than there is, all at once."""
     parts = zip(terms.numbers(args[0]), terms.numbers(args[1]), terms.constants(args[2]))
-    uses = [Use(start.node, long.node, needs) for start, long, needs in parts]
+    uses = [TaskUse(start.node, long.node, needs) for start, long, needs in parts]
     [capacity] = terms.constants((args[3],))
     return Truth(Shared(capacity, tuple(uses)).room()) if uses else arithmetic.YES
 

@@ -38,7 +38,7 @@ class Op(Enum):
     AT_MOST = auto()
     GREATER = auto()
     AT_LEAST = auto()
-    # a capacity, and of each task that shares it when it starts, how long it takes, how much it needs
+    # a capacity, and of each task that shares it the start, the length, and what it needs
     ROOM = auto()
     # truths of any kind
     EQUAL = auto()

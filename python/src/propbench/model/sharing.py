@@ -14,7 +14,7 @@ from propbench.model.nodes import ZERO, Node, Op, all_of, any_of, node, number
 
 
 @dataclass(frozen=True)
-class Use:
+class TaskUse:
     """When a task starts, how long it takes, and how much it needs then."""
 
     start: Node
@@ -37,14 +37,14 @@ class Shared:
     """How much there is, and who uses it."""
 
     capacity: int
-    uses: tuple[Use, ...]
+    uses: tuple[TaskUse, ...]
 
     @staticmethod
     def of(room: Node) -> "Shared":
         """That of which a node says that it is enough."""
         capacity, *rest = room.args
         parts = zip(rest[::3], rest[1::3], rest[2::3])
-        uses = (Use(start, length, int(needs.constant)) for start, length, needs in parts)
+        uses = (TaskUse(start, length, int(needs.constant)) for start, length, needs in parts)
         return Shared(int(capacity.constant), tuple(uses))
 
     @property
@@ -58,7 +58,7 @@ class Shared:
         return node(Op.ROOM, (number(self.capacity), *self.parts_of(first, others)))
 
     @staticmethod
-    def parts_of(own: Use, others: Iterable[Use]) -> list[Node]:
+    def parts_of(own: TaskUse, others: Iterable[TaskUse]) -> list[Node]:
         """Of a task and others when they start, how long they take, and what they need."""
         return [it for use in (own, *others) for it in (use.start, use.length, number(use.needs))]
 
@@ -71,7 +71,7 @@ class Shared:
                 none = [node(Op.AT_MOST, (use.length, ZERO)) for use in (one, other)]
                 yield any_of([first, second, *none])
 
-    def beside(self) -> Iterator[tuple[Use, list[Use]]]:
+    def beside(self) -> Iterator[tuple[TaskUse, list[TaskUse]]]:
         """Each task with those that may run beside it, where these need more than there is."""
         for own in self.uses:
             others = [it for it in self.uses if it is not own]
@@ -79,7 +79,7 @@ class Shared:
             if own.needs + sum(it.needs for it in others) > self.capacity:
                 yield own, others
 
-    def load_fits(self, own: Use, others: Sequence[Use]) -> Node:
+    def load_fits(self, own: TaskUse, others: Sequence[TaskUse]) -> Node:
         """The truth that a task has room beside those that run when it starts."""
         if not others:
             return node(Op.AT_MOST, (own.length, ZERO))

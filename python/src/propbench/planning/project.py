@@ -42,10 +42,10 @@ from propbench.planning.resources import (
     paid,
     rates_of,
     resources_of,
+    restated,
     state_resource,
     state_rooms,
     uses_given,
-    without_rooms,
 )
 from propbench.planning.tasks import (
     Away,
@@ -341,8 +341,7 @@ class Project:
             state_rooms(self, used)
             return task
 
-        network = self.workbench.network
-        return network.restate(without_rooms(self, used), state) if used else network.whole(state)
+        return restated(self, used, state)
 
     def away(self, person: str, first: Day, last: Day, under: str | None = None) -> str:
         """A person does nothing from the beginning of one day to the beginning of another; the
@@ -1145,8 +1144,7 @@ class Project:
                 state_bounds(self, [away.person for away in aways], self.end_made)
             if used:
                 # (they may take longer now)
-                rooms = without_rooms(self, used)
-                self.workbench.network.restate(rooms, lambda: state_rooms(self, used))
+                restated(self, used, lambda: state_rooms(self, used))
 
         if theirs:
             keep_off(self, theirs, aways, then)

@@ -4,14 +4,14 @@ No more of a resource is in use at once than there is, which is stated of all ta
 once. What takes no day uses nothing.
 """
 
-from collections.abc import Container, Iterable, Iterator, Mapping, Sequence
+from collections.abc import Callable, Collection, Container, Iterable, Iterator, Mapping, Sequence
 from dataclasses import dataclass
-from typing import TYPE_CHECKING, SupportsIndex
+from typing import TYPE_CHECKING, SupportsIndex, TypeVar
 
 from propbench.model.events import Event, Required
 from propbench.model.expressions import Number, if_else
 from propbench.model.nodes import TRUE, Declared, Op, cell
-from propbench.model.sharing import Shared, Use
+from propbench.model.sharing import Shared, TaskUse
 from propbench.nearby import near_names
 from propbench.planning.pausing import span_of
 from propbench.planning.tasks import Rate, Task
@@ -19,6 +19,8 @@ from propbench.showing import printable
 
 if TYPE_CHECKING:
     from propbench.planning.project import Project
+
+AnyStated = TypeVar("AnyStated")
 
 
 @dataclass(frozen=True)
@@ -105,9 +107,17 @@ def state_rooms(project: "Project", names: Container[str]) -> None:
             _state_room(project, said, [task for task in tasks if said.resource in task.uses])
 
 
-def without_rooms(project: "Project", names: Container[str]) -> Iterator[Event]:
-    """What is stated but that there is room for all that use these resources: it is stated anew
-    where a task more does, or one takes another time."""
+def restated(
+    project: "Project", names: Collection[str], state: Callable[[], AnyStated]
+) -> AnyStated:
+    """Has what a function states take the place of what is stated of these resources: so of a task
+    more that uses them, or of one that takes another time."""
+    network = project.workbench.network
+    return network.restate(_without_rooms(project, names), state) if names else network.whole(state)
+
+
+def _without_rooms(project: "Project", names: Container[str]) -> Iterator[Event]:
+    """What is stated but that there is room for all that use these resources."""
     for each in project.workbench.network.events:
         is_room = isinstance(each, KeptWithin) and each.constraint.op is Op.ROOM
         if not (is_room and _is_of(each, project, names)):
@@ -147,7 +157,8 @@ def _state_room(project: "Project", said: KeptWithin, tasks: Sequence[Task]) -> 
     """There is room for these tasks, as often as they run at once."""
     events = project.workbench.network.events
     uses = [
-        Use(task.start.node, span_of(events, task).node, task.uses[said.resource]) for task in tasks
+        TaskUse(task.start.node, span_of(events, task).node, task.uses[said.resource])
+        for task in tasks
     ]
     shared = Shared(said.holds, tuple(uses))
     if shared.most > said.holds:
