@@ -264,8 +264,9 @@ class Draw:
 
     def month(self, depth: int) -> Part:
         """A month that a cell shows to be one."""
-        month = self.cell("month")
-        assert month
+        found = self.cell("month")
+        assert found
+        month: Part = found
         if depth == 0 or self.chance.random() < 0.3:
             return month
         return self.choice(depth, lambda depth: month)

@@ -23,7 +23,7 @@ pub struct Foreseen {
     pub constants: usize,
 }
 
-/// What is foreseen of the value of a term, which is to be of a kind. It is refused as by `compute`.
+/// What is foreseen of the value of a term, which is to be of a kind. Refused as by `compute`.
 pub fn foresee<'t, 'a, W: Words>(
     alloc: Global,
     words: &W,

@@ -16,6 +16,7 @@ use Rattle.prop_workbench.specs.declared.session.Session.{Session}
 use Rattle.prop_engine.specs.Answers.{Answer}
 use Rattle.prop_workbench.specs.Questions.{Picks}
 use Rattle.prop_seeking.specs.Seeking.{Sought}
+use Rattle.prop_blaming.specs.Blaming.{blaming}
 use Rattle.prop_requiring.specs.Asking.{is_definition, is_requirement}
 use Rattle.prop_requiring.specs.Requiring.{Defines, Requires, requiring}
 use Rattle.prop_demands.specs.inner.Laws.{IsGround, IsSolid}
@@ -59,6 +60,12 @@ pub own_definition : {O : Type 0} (picks : Picks O) (library : List Stored) (old
     → requiring picks library old line answer new
 own_definition picks library old line behind answer new other is split defines =
     rw (other, is) (subst (λ (l : List ℕ). Defines picks library old l answer new) (sym split) defines)
+
+-- any other does what the blamer does
+pub other_line : {O : Type 0} (picks : Picks O) (library : List Stored) (old : Sought O) (line : List ℕ)
+    (answer : Answer) (new : Sought O) → is_requirement line ≡ false → is_definition line ≡ false
+    → blaming picks library old line answer new → requiring picks library old line answer new
+other_line picks library old line answer new first second blames = rw (first, second) blames
 
 -- the numbers below one more
 pub range_push : (n : ℕ) (old new : List ℕ) → old ≡ range_with_len 0 n → new ≡ old ++ n ∷ []

@@ -327,7 +327,8 @@ impl<R: Guarded + Drop, O: Order + Drop> Requirer<R, O> {
     ) -> Result<Prepared<'l>, Refusal>
         requires writes { IsWritten Sort.Any parts.text.now (term_of term) }
         requires known { IsKnownIn (library_of R.value_of self.now.blamer.seeker.teller.session)
-            (state_of self.now.blamer.seeker.teller.session) (term_of term) known.kinded known.span }
+            (state_of self.now.blamer.seeker.teller.session) (term_of term) known.kinded
+            known.span }
         ensures ok { IfOk result (λ p. Prepares
             (library_of R.value_of self.now.blamer.seeker.teller.session)
             (state_of self.now.blamer.seeker.teller.session) parts.entry.before.now

@@ -56,8 +56,8 @@ MayPass picks library old (Some line) new =
     (other : Answer) × blaming picks library old line.items other new
 
 -- what a definition does: the line that declares its cell, one that fixes it, and what is demanded
-pub record Prepares {Z : Type 0} (library : List Stored) (s : State) (before text declaring : List ℕ)
-    (fixing : Option (Vec ℕ Z)) (equation : Term) : Type 0 where
+pub record Prepares {Z : Type 0} (library : List Stored) (s : State)
+    (before text declaring : List ℕ) (fixing : Option (Vec ℕ Z)) (equation : Term) : Type 0 where
   pub name : List ℕ
   pub term : Term
   pub span : Span

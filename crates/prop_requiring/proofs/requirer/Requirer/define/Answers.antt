@@ -8,7 +8,8 @@ use Rattle.prop_requiring.proofs.requirer.Requirer.define.Goals as goal
 
 pub returns-in-Err-clause-defines : goal.returns-in-Err-clause-defines
 returns-in-Err-clause-defines g c =
-    inl (c.in-Err.refusal, unparted (codes "let" ++ c.args.behind.now) c.in-Err.refusal c.in-Err.ensures.err, refl, refl)
+    let line = codes "let" ++ c.args.behind.now in
+    inl (c.in-Err.refusal, unparted line c.in-Err.refusal c.in-Err.ensures.err, refl, refl)
 
 pub returns-in-Err-prepare-clause-defines : goal.returns-in-Err-prepare-clause-defines
 returns-in-Err-prepare-clause-defines g c =
