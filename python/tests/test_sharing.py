@@ -79,9 +79,9 @@ def test_all_plans_are_found_and_no_others(
     with Workbench() as w:
         p = drawn.project(w)
         assert plans_of(w, p) == known
-        last = {max(map(sum, zip(starts, drawn.long))) for starts in known}
+        ends = [max(s + d for s, d in zip(starts, drawn.long)) for starts in known]
         best = w.least(p.end)
-        assert best.value == min(last, default=None) and best.proved
+        assert best.value == min(ends, default=None) and best.proved
         w.kick(f"r0 holds {drawn.holds[0]}")
         assert plans_of(w, p) == drawn.all_plans(free=0)
 
