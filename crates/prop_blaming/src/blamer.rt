@@ -205,7 +205,8 @@ impl<R: Guarded + Drop, O: Order + Drop> Blamer<R, O> {
 
     /// The next question begins a search.
     pub(crate) fn forget(&mut self)
-        ensures { self.new ≡ record self.old { explorer = None } }
+        ensures forgets { self.new ≡ record self.old { explorer = None } }
+        ensures seeker { self.new.seeker ≡ self.old.seeker }
     {
         drop(self.explorer.take());
     }

@@ -102,7 +102,8 @@ different_apart (v ∷ []) w n = one_apart (is_equal v v) (is_equal w w) (is_equ
 different_apart (v ∷ (x ∷ xs)) w n =
     let rest = x ∷ xs in
     more_apart (is_equal v v) (list_any (is_equal v) rest) (is_equal v w) (are_different rest) (is_equal w w)
-    (list_any (λ u. is_equal u w) rest) (list_all (λ u. is_unequal u w) rest) (different_apart (x ∷ xs) w (λ e. absurd (cc)))
+    (list_any (λ u. is_equal u w) rest) (list_all (λ u. is_unequal u w) rest)
+    (different_apart (x ∷ xs) w (λ e. absurd (cc)))
     ∙ ap (λ b. are_different (v ∷ rest) && (b && list_all (λ u. is_unequal u w) rest)) (sym (unequal_is v w))
 
 -- ---- terms
@@ -172,7 +173,8 @@ pub shows_itself : (lexicon : Lexicon) (kinded : Kinded) (t : Term) (x place : �
     → Makes lexicon second truth_kind (λ a. formula between.Equal (a x) (a x)) place
     → Shows lexicon second truth_kind (Two between.Equal t t) place
 shows_itself lexicon kinded t x place first second sound ft g m =
-    shows_two lexicon between.Equal kinded t t x x place first first second tt ft (grown_here lexicon first sound) ft g m
+    shows_two lexicon between.Equal kinded t t x x place first first second tt ft (grown_here lexicon first sound) ft
+    g m
 
 pub shows_unequal : (lexicon : Lexicon) (kinded : Kinded) (t u : Term) (x y place : ℕ) (old first second : List Made)
     → Shows lexicon old kinded u y → Grown lexicon old first → Shows lexicon first kinded t x

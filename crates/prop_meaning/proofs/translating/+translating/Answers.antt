@@ -241,7 +241,8 @@ all_different-returns-clause-shows g t c =
     let list = term_of c.deref-2.result.now in
     let op : c.in-One.op ≡ Different = c.is_different.ensures c.if-not-is_different.false in
     let whole : term_of c.args.term.now ≡ One Different list = ap term_of c.in-One.is
-    ∙ (ap (λ o. One o (term_of c.in-One.list.value)) op ∙ ap (λ u. One Different (term_of u)) (sym c.deref-2.ensures)) in
+    ∙ (ap (λ o. One o (term_of c.in-One.list.value)) op
+    ∙ ap (λ u. One Different (term_of u)) (sym c.deref-2.ensures)) in
     let kind : truth_kind ≡ c.args.kinded = c.is_same_kind.ensures c.if-not-is_same_kind.false in
     IfOk-weaker c.differing.result _ _ (λ place s.
     subst (λ k. Shows lexicon new k (term_of c.args.term.now) place) kind
@@ -311,7 +312,8 @@ apart-returns-in-Ok-clause-shows g t c =
       has = c.in-Ok.ensures.makes.has;
       of_it = λ u fu. subst (λ v. Shows lexicon third truth_kind (unequal_to v u) place)
           (sym (parts ∙ ap (λ o. Two o others last) comma))
-          (shows_both lexicon (unequal_to others u) (Two Unequal last u) c.in_ok-x.x c.in_ok-z.z place first second third
+          (shows_both lexicon (unequal_to others u) (Two Unequal last u) c.in_ok-x.x c.in_ok-z.z place
+          first second third
           (c.in_ok-x.ensures.shows.of_it u fu) c.in_ok-z.ensures.grown
           (c.in_ok-z.ensures.shows.of_it u
           (shows_grows lexicon old first c.args.both u c.args.y c.in_ok-x.ensures.grown fu))

@@ -1,4 +1,4 @@
-use Rattle.std.proofs.Common.{◌∙◌, sym, ap}
+use Rattle.std.proofs.Common.{◌∙◌, sym, subst, ap}
 use Rattle.prop_procedures.specs.Kept.{stored_of}
 use Rattle.prop_workbench.specs.Machine.{State}
 use Rattle.prop_workbench.specs.Sessions.{state_of}
@@ -35,5 +35,5 @@ returns-then-is_without_trace-clause-ready g c =
     }
 
 pub returns-clause-ready : goal.returns-clause-ready
-returns-clause-ready g c = subst (λ b. IsReady g.R.Rule.value_of b) (sym c.forget.ensures)
+returns-clause-ready g c = subst (λ b. IsReady g.R.Rule.value_of b) (sym c.forget.ensures.forgets)
     (record { seeker = c.post-end.ensures.ready; explored = tt })

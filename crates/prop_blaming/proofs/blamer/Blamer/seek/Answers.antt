@@ -37,5 +37,8 @@ returns-clause-ready g c =
     }
 
 pub returns-then-ends-clause-ready : goal.returns-then-ends-clause-ready
-returns-then-ends-clause-ready g c = subst (λ b. IsReady g.R.Rule.value_of b) (sym c.forget.ensures)
+returns-then-ends-clause-ready g c = subst (λ b. IsReady g.R.Rule.value_of b) (sym c.forget.ensures.forgets)
     (record { seeker = c.command-reply.ensures.ready; explored = tt })
+
+pub returns-then-ends-clause-seeks : goal.returns-then-ends-clause-seeks
+returns-then-ends-clause-seeks g c = rw c.forget.ensures.seeker c.command-reply.ensures.seeks
