@@ -1,20 +1,17 @@
 #!/usr/bin/python3
-"""Random constraints and definitions as one writes them: what `require` and `let` leave is held to
-plain evaluation over all points.
+"""Random constraints as one writes them: what `require` leaves is held to plain evaluation over all
+points.
 
 usage: tests/requiring.py PROGRAM [COUNT [FROM]]
 
 PROGRAM is a workbench that takes constraints, as propwide; COUNT networks of numbers, elements
-and truths are tried (400), whose seeds begin with FROM (0), with up to two cells that are defined,
-and up to three constraints on all of them, some under a premise that may be kicked out and brought
-again. Looked at is that
+and truths are tried (400), whose seeds begin with FROM (0), with up to three constraints each, some
+under a premise that may be kicked out and brought again. Looked at is that
 
-- `plans` of the cells, asked to the end, tells just the points at which each defined cell is what
-  its expression is worth, and each constraint holds whose premise is believed, or that has none: no
-  point is lost, and none is wrong;
-- a constraint or a definition with one part that is wrong, at any place, changes nothing, and is
-  refused for what is wrong with that part: its form, a word, a kind, or a number that may be out of
-  range; and a definition of a cell that can't be made is refused as the line `cell` is;
+- `plans` of the cells, asked to the end, tells just the points at which each constraint holds whose
+  premise is believed, or that has none: no point is lost, and none is wrong;
+- a constraint with one part that is wrong, at any place, changes nothing, and is refused for what
+  is wrong with that part: its form, a word, a kind, or a number that may be out of range;
 - `list` calls what was made by the layer's name.
 
 The status is 0 where nothing was wrong.
@@ -262,18 +259,6 @@ class Draw:
             return self.joined(depth)
         return self.compared(depth)
 
-    def month(self, depth: int) -> Part:
-        """A month that a cell shows to be one."""
-        found = self.cell("month")
-        assert found
-        month: Part = found
-        if depth == 0 or self.chance.random() < 0.3:
-            return month
-        return self.choice(depth, lambda depth: month)
-
-    def of_kind(self, kind: str, depth: int) -> Part:
-        return {"number": self.number, "truth": self.truth, "month": self.month}[kind](depth)
-
     def joined(self, depth: int) -> Part:
         word, level, before, behind, holds = self.chance.choice(JOINED)
         left, right = self.truth(depth - 1), self.truth(depth - 1)
@@ -308,9 +293,6 @@ NO_TRUTHS = {
 }
 # The cells that these parts name, beside those of the network.
 SPARE = ("cell far span", "cell sure truth", "cell month month")
-# What stands where a definition has a name, and is none of a new cell; and what is no definition.
-NO_NAMES = ("far", "yes", "9a", "two words", "by", "", "a+b", "far far", "{a}")
-NO_DEFINITIONS = ("let", "let x", "let x 5", "let x == 5", "let x =", "let jan = month == jan")
 
 
 @dataclass
@@ -338,15 +320,6 @@ class Misdraw(Draw):
 
 
 # ---- a session
-
-
-def points_of(values: dict[str, list[Value]], defined: dict[str, Part]) -> Iterator[Points]:
-    """All points of these values, with those of the cells that are defined behind them."""
-    for row in itertools.product(*values.values()):
-        points = dict(zip(values, row))
-        for cell, part in defined.items():
-            points[cell] = part.worth(points)
-        yield points
 
 
 @dataclass
@@ -382,15 +355,13 @@ class Session:
             if kind == "number":
                 self.say(f"fix {cell} {min(values[cell])}..{max(values[cell])}")
         self.misread(kinds, chance)
-        draw = Draw(chance, kinds)
-        defined = self.defined(draw, chance)
-        required = self.required(draw, chance)
-        self.held(values, defined, required, set())
+        required = self.required(Draw(chance, kinds), chance)
+        self.held(values, required, set())
         for premise in sorted({it.premise for it in required if it.premise}):
             self.say(f"kick {premise}")
-            self.held(values, defined, required, {premise})
+            self.held(values, required, {premise})
             self.say(f"bring {premise}")
-        self.held(values, defined, required, set())
+        self.held(values, required, set())
 
     def kinds(self, chance: Random) -> dict[str, str]:
         kinds = {f"n{k}": "number" for k in range(chance.randint(1, 3))}
@@ -413,34 +384,11 @@ class Session:
             part = draw.truth(chance.randint(0, 3))
             if not draw.told:
                 continue
-            for line in (f"require {part.text}", f"let wrong = not ({part.text})"):
-                reply = self.say(line)
-                if reply != [draw.told]:
-                    self.blame(f"{line}: {reply}, and not {draw.told}")
-        for name in NO_NAMES:
-            if self.say(f"let {name} = 1") != self.say(f"cell {name} span"):
-                self.blame(f"let {name} = 1 is not refused as the cell is")
-        for line in NO_DEFINITIONS:
-            if self.say(line) != ["error 4: wrong form"]:
-                self.blame(f"{line} is taken")
+            reply = self.say(f"require {part.text}")
+            if reply != [draw.told]:
+                self.blame(f"require {part.text}: {reply}, and not {draw.told}")
         if self.say("list") != before:
             self.blame("what was refused has left something")
-
-    def defined(self, draw: Draw, chance: Random) -> dict[str, Part]:
-        """Cells that are defined, of which those before may be parts. They are drawn from then on."""
-        parts: dict[str, Part] = {}
-        for k in range(chance.randint(0, 2)):
-            kind = chance.choice(sorted({"number", "truth", *draw.kinds.values()}))
-            part = draw.of_kind(kind, chance.randint(0, 2))
-            line = f"let d{k} = {part.text}"
-            reply = self.say(line)
-            if reply != ["ok"]:
-                self.blame(f"{line}: {reply}")
-                continue
-            parts[f"d{k}"] = part
-            draw.kinds[f"d{k}"] = kind
-        self.taken += len(parts)
-        return parts
 
     def required(self, draw: Draw, chance: Random) -> list[Required]:
         taken = []
@@ -454,19 +402,16 @@ class Session:
         self.taken += len(taken)
         return taken
 
-    def held(
-        self,
-        values: dict[str, list[Value]],
-        defined: dict[str, Part],
-        required: list[Required],
-        out: set[str],
-    ) -> None:
+    def held(self, values: dict[str, list[Value]], required: list[Required], out: set[str]) -> None:
         """Holds the rows that are told to those that there are."""
-        cells = [*values, *defined]
+        cells = list(values)
         wanted = {
-            tuple(points.values())
-            for points in points_of(values, defined)
-            if all(it.premise in out or it.part.worth(points) == "yes" for it in required)
+            row
+            for row in itertools.product(*(values[cell] for cell in cells))
+            if all(
+                it.premise in out or it.part.worth(dict(zip(cells, row))) == "yes"
+                for it in required
+            )
         }
         told: set[tuple[Value, ...]] = set()
         # (so that the rows are told from the first on)
@@ -546,17 +491,6 @@ REFUSED = [
     ("require\tt\tunder\tp \r", "ok"),
     ("ask x", "x = 2"),
     ("ask t", "t = yes"),
-    ("let y = x < 2 under p", "error 4: wrong form"),
-    ("let y = x + t", "error 13: wrong kind"),
-    ("let y = apr", "error 9: no such cell"),
-    (f"let y = x + {'1' * 4090}", "error 1: line too long"),
-    ("\tlet y = 2", "error 3: unknown command"),
-    ("let\ty=x + 1 \r", "ok"),
-    ("ask y", "y = 3"),
-    ("let kept = yes", "ok"),
-    ("let late = if t then m else feb", "ok"),
-    ("fix m jan", "ok"),
-    ("ask late", "late = jan"),
 ]
 
 

@@ -8,4 +8,3 @@ pub mod Allowing
 pub mod Demanding
 pub mod Core
 pub mod Demands
-pub mod Foreseeing

@@ -1,5 +1,4 @@
 pub mod Naming
 pub mod Demanding
-pub mod Foreseeing
 pub mod Refusing
 pub mod inner

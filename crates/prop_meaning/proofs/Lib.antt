@@ -15,4 +15,3 @@ pub mod Goodness
 pub mod DividingLemmas
 pub mod Naming
 pub mod Different
-pub mod ForeseeLemmas

@@ -2,6 +2,5 @@ pub mod Words
 pub mod Acts
 pub mod Kinds
 pub mod Posting
-pub mod Foreseeing
 pub mod Palette
 pub mod inner

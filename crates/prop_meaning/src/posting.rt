@@ -68,7 +68,7 @@ fn constants_of(
 }
 
 /// All of them.
-pub(crate) fn put_together(
+fn put_together(
     alloc: Global,
     count: usize,
     made: &[Made],

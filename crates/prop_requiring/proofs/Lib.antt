@@ -1,4 +1,3 @@
 pub mod AskLemmas
-pub mod DefineLemmas
 pub mod PostLemmas
 pub mod Starting
