@@ -512,8 +512,8 @@ BUGS = [
     ),
     Bug(
         "flatzinc/arithmetic.py",
-        "return (plus, minus + bound) if bound >= 0 else",
-        "return (plus, minus) if bound >= 0 else",
+        "return (plus, minus + bound) if bound > 0 else",
+        "return (plus, minus) if bound > 0 else",
         _FLAT,
     ),
     Bug(
@@ -578,8 +578,8 @@ BUGS = [
     ),
     Bug(
         "watching/owned.py",
-        'under = f" ({event.premise})" if event.premise else ""',
-        'under = ""',
+        'text = f"{event.told} ({premise})" if premise else event.told',
+        "text = event.told",
         "how::a_workbench_tells_how",
     ),
     Bug(
