@@ -26,6 +26,7 @@ domain relation cell attach define fix tell choose kick bring forget limit ask w
 worldview nogoods
 """.split()
 # What propwide has more.
+REQUIRED = ["require", "let"]
 TOLD = ["step", "how", "list"]
 # Questions that have a word behind them which is no number, while a reply to them has one.
 ENDS = ["how", "least", "greatest"]
@@ -43,7 +44,7 @@ def is_command(line: str) -> bool:
         return not "".join(rest).lstrip("-").isdigit()
     if word in ("solve", "plans"):
         return word == "solve" or len(rest) > 1
-    return word in (*COMMANDS, "require", *TOLD, *BLAME) and not (
+    return word in (*COMMANDS, *REQUIRED, *TOLD, *BLAME) and not (
         word in ("nogoods", *TOLD) and rest
     )
 

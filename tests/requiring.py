@@ -1,17 +1,20 @@
 #!/usr/bin/python3
-"""Random constraints as one writes them: what `require` leaves is held to plain evaluation over all
-points.
+"""Random constraints and definitions as one writes them: what `require` and `let` leave is held to
+plain evaluation over all points.
 
 usage: tests/requiring.py PROGRAM [COUNT [FROM]]
 
 PROGRAM is a workbench that takes constraints, as propwide; COUNT networks of numbers, elements
-and truths are tried (400), whose seeds begin with FROM (0), with up to three constraints each, some
-under a premise that may be kicked out and brought again. Looked at is that
+and truths are tried (400), whose seeds begin with FROM (0), with up to two cells that are defined,
+and up to three constraints on all of them, some under a premise that may be kicked out and brought
+again. Looked at is that
 
-- `plans` of the cells, asked to the end, tells just the points at which each constraint holds whose
-  premise is believed, or that has none: no point is lost, and none is wrong;
-- a constraint with one part that is wrong, at any place, changes nothing, and is refused for what
-  is wrong with that part: its form, a word, a kind, or a number that may be out of range;
+- `plans` of the cells, asked to the end, tells just the points at which each defined cell is what
+  its expression is worth, and each constraint holds whose premise is believed, or that has none: no
+  point is lost, and none is wrong;
+- a constraint or a definition with one part that is wrong, at any place, changes nothing, and is
+  refused for what is wrong with that part: its form, a word, a kind, or a number that may be out of
+  range; and a definition of a cell that can't be made is refused as the line `cell` is;
 - `list` calls what was made by the layer's name.
 
 The status is 0 where nothing was wrong.
@@ -117,7 +120,9 @@ class Draw:
             constant = chance.randint(0, 5)
             known = Part(str(constant), 17, lambda points: constant)
             return chance.choice([self.cell("number") or known, known])
-        shape = chance.randrange(12)
+        shape = chance.randrange(13)
+        if shape == 12:
+            return self.looked_up(depth, self.number)
         if shape < 4:
             return self.of_one(depth, shape)
         if shape == 4:
@@ -170,6 +175,39 @@ class Draw:
             4,
             lambda points: (left if test.worth(points) == "yes" else right).worth(points),
         )
+
+    def looked_up(self, depth: int, of: Callable[[int], Part]) -> Part:
+        """What stands in a table behind the first label that is the same."""
+        item, labels = self.keyed(depth - 1)
+        rows = [(label, of(depth - 1)) for label in labels]
+        text = ", ".join(f"{label}: {it.within(4)}" for label, it in rows)
+        # (so that the first of the rows with a label is what stands there)
+        table = dict(reversed(rows))
+        return Part(
+            f"element({item.text}; {text})",
+            17,
+            lambda points: table[item.worth(points)].worth(points),
+        )
+
+    def keyed(self, depth: int) -> tuple[Part, list[Value]]:
+        """What is looked up, and labels in any order, with each of its values among them."""
+        chance = self.chance
+        month, sure = self.cell("month"), self.cell("truth")
+        shape = chance.randrange(4)
+        labels: list[Value]
+        if shape == 0 and month:
+            item, labels = month, [*MONTHS]
+        elif shape == 1 and sure:
+            item, labels = sure, ["yes", "no"]
+        else:
+            one, by = self.number(depth), chance.choice([-2, 1, 2, 3])
+            item = Part(
+                f"{one.within(14)} % {by}", 14, lambda points: number(one.worth(points)) % by
+            )
+            labels = [*range(0, by, 1 if by > 0 else -1), *chance.sample([5, -7, 10**18], 1)]
+        labels += chance.sample(labels, chance.randint(0, 1))
+        chance.shuffle(labels)
+        return item, labels
 
     def compared(self, depth: int) -> Part:
         mark, holds = self.chance.choice(COMPARED)
@@ -238,7 +276,9 @@ class Draw:
         if depth <= 0:
             known = chance.choice(["yes", "no"])
             return self.cell("truth") or Part(known, 17, lambda points: known)
-        shape = chance.randrange(11)
+        shape = chance.randrange(12)
+        if shape == 11:
+            return self.looked_up(depth, self.truth)
         if shape == 10:
             return self.different(depth)
         if shape == 9:
@@ -259,6 +299,18 @@ class Draw:
             return self.joined(depth)
         return self.compared(depth)
 
+    def month(self, depth: int) -> Part:
+        """A month that a cell shows to be one."""
+        found = self.cell("month")
+        assert found
+        month: Part = found
+        if depth == 0 or self.chance.random() < 0.3:
+            return month
+        return self.chance.choice([self.choice, self.looked_up])(depth, lambda depth: month)
+
+    def of_kind(self, kind: str, depth: int) -> Part:
+        return {"number": self.number, "truth": self.truth, "month": self.month}[kind](depth)
+
     def joined(self, depth: int) -> Part:
         word, level, before, behind, holds = self.chance.choice(JOINED)
         left, right = self.truth(depth - 1), self.truth(depth - 1)
@@ -278,7 +330,12 @@ NO_NUMBERS = {
     "sure": "error 13: wrong kind",
     "(far + 1)": "error 6: not a number in range",
     "(0 // far)": "error 6: not a number in range",
-    "(n0 + element(n0; 1: 2, 3: 4))": "error 4: wrong form",
+    "element(far; 1: 2, 3: 4)": "error 6: not a number in range",
+    "element(month; mar: 1, jan: 2)": "error 6: not a number in range",
+    "element(month; mar: 1, feb: 3, jan: 2, apr: 4)": "error 15: not in the domain",
+    "element(month; apr: 4, mar: 1, feb: 3, jan: 2)": "error 15: not in the domain",
+    "element(month; mar: 1, feb: sure, jan: 2)": "error 13: wrong kind",
+    "element(stray; mar: 1)": "error 9: no such cell",
 }
 NO_TRUTHS = {
     "stray": "error 15: not in the domain",
@@ -293,6 +350,9 @@ NO_TRUTHS = {
 }
 # The cells that these parts name, beside those of the network.
 SPARE = ("cell far span", "cell sure truth", "cell month month")
+# What stands where a definition has a name, and is none of a new cell; and what is no definition.
+NO_NAMES = ("far", "yes", "9a", "two words", "by", "", "a+b", "far far", "{a}")
+NO_DEFINITIONS = ("let", "let x", "let x 5", "let x == 5", "let x =", "let jan = month == jan")
 
 
 @dataclass
@@ -320,6 +380,15 @@ class Misdraw(Draw):
 
 
 # ---- a session
+
+
+def points_of(values: dict[str, list[Value]], defined: dict[str, Part]) -> Iterator[Points]:
+    """All points of these values, with those of the cells that are defined behind them."""
+    for row in itertools.product(*values.values()):
+        points = dict(zip(values, row))
+        for cell, part in defined.items():
+            points[cell] = part.worth(points)
+        yield points
 
 
 @dataclass
@@ -355,13 +424,15 @@ class Session:
             if kind == "number":
                 self.say(f"fix {cell} {min(values[cell])}..{max(values[cell])}")
         self.misread(kinds, chance)
-        required = self.required(Draw(chance, kinds), chance)
-        self.held(values, required, set())
+        draw = Draw(chance, kinds)
+        defined = self.defined(draw, chance)
+        required = self.required(draw, chance)
+        self.held(values, defined, required, set())
         for premise in sorted({it.premise for it in required if it.premise}):
             self.say(f"kick {premise}")
-            self.held(values, required, {premise})
+            self.held(values, defined, required, {premise})
             self.say(f"bring {premise}")
-        self.held(values, required, set())
+        self.held(values, defined, required, set())
 
     def kinds(self, chance: Random) -> dict[str, str]:
         kinds = {f"n{k}": "number" for k in range(chance.randint(1, 3))}
@@ -384,11 +455,34 @@ class Session:
             part = draw.truth(chance.randint(0, 3))
             if not draw.told:
                 continue
-            reply = self.say(f"require {part.text}")
-            if reply != [draw.told]:
-                self.blame(f"require {part.text}: {reply}, and not {draw.told}")
+            for line in (f"require {part.text}", f"let wrong = not ({part.text})"):
+                reply = self.say(line)
+                if reply != [draw.told]:
+                    self.blame(f"{line}: {reply}, and not {draw.told}")
+        for name in NO_NAMES:
+            if self.say(f"let {name} = 1") != self.say(f"cell {name} span"):
+                self.blame(f"let {name} = 1 is not refused as the cell is")
+        for line in NO_DEFINITIONS:
+            if self.say(line) != ["error 4: wrong form"]:
+                self.blame(f"{line} is taken")
         if self.say("list") != before:
             self.blame("what was refused has left something")
+
+    def defined(self, draw: Draw, chance: Random) -> dict[str, Part]:
+        """Cells that are defined, of which those before may be parts. They are drawn from then on."""
+        parts: dict[str, Part] = {}
+        for k in range(chance.randint(0, 2)):
+            kind = chance.choice(sorted({"number", "truth", *draw.kinds.values()}))
+            part = draw.of_kind(kind, chance.randint(0, 2))
+            line = f"let d{k} = {part.text}"
+            reply = self.say(line)
+            if reply != ["ok"]:
+                self.blame(f"{line}: {reply}")
+                continue
+            parts[f"d{k}"] = part
+            draw.kinds[f"d{k}"] = kind
+        self.taken += len(parts)
+        return parts
 
     def required(self, draw: Draw, chance: Random) -> list[Required]:
         taken = []
@@ -402,16 +496,19 @@ class Session:
         self.taken += len(taken)
         return taken
 
-    def held(self, values: dict[str, list[Value]], required: list[Required], out: set[str]) -> None:
+    def held(
+        self,
+        values: dict[str, list[Value]],
+        defined: dict[str, Part],
+        required: list[Required],
+        out: set[str],
+    ) -> None:
         """Holds the rows that are told to those that there are."""
-        cells = list(values)
+        cells = [*values, *defined]
         wanted = {
-            row
-            for row in itertools.product(*(values[cell] for cell in cells))
-            if all(
-                it.premise in out or it.part.worth(dict(zip(cells, row))) == "yes"
-                for it in required
-            )
+            tuple(points.values())
+            for points in points_of(values, defined)
+            if all(it.premise in out or it.part.worth(points) == "yes" for it in required)
         }
         told: set[tuple[Value, ...]] = set()
         # (so that the rows are told from the first on)
@@ -479,7 +576,11 @@ REFUSED = [
     ("require under p", "error 4: wrong form"),
     ("require x < 1 under no", "error 5: not a name"),
     ("require x // x < 1", "error 6: not a number in range"),
-    ("require element(x; 1: 2, 3: 4) < 3", "error 4: wrong form"),
+    ("require element(x; 1: 2, 3: 4) < 3", "error 6: not a number in range"),
+    ("require element(x; 0: 2, 1: 1, 2: 1, 3: t) < 3", "error 13: wrong kind"),
+    ("require element(x; 0: 2, 1: 1, m: 1) < 3", "error 6: not a number in range"),
+    ("require element(x < 3) == 3", "error 4: wrong form"),
+    ("require (x, x) in pairs", "error 4: wrong form"),
     ("require different(x, t)", "error 13: wrong kind"),
     ("require different(x, y)", "error 9: no such cell"),
     ("require different()", "error 4: wrong form"),
@@ -491,6 +592,17 @@ REFUSED = [
     ("require\tt\tunder\tp \r", "ok"),
     ("ask x", "x = 2"),
     ("ask t", "t = yes"),
+    ("let y = x < 2 under p", "error 4: wrong form"),
+    ("let y = x + t", "error 13: wrong kind"),
+    ("let y = apr", "error 9: no such cell"),
+    (f"let y = x + {'1' * 4090}", "error 1: line too long"),
+    ("\tlet y = 2", "error 3: unknown command"),
+    ("let\ty=x + 1 \r", "ok"),
+    ("ask y", "y = 3"),
+    ("let kept = yes", "ok"),
+    ("let late = if t then m else feb", "ok"),
+    ("fix m jan", "ok"),
+    ("ask late", "late = jan"),
 ]
 
 

@@ -4,8 +4,8 @@ out.
 
 usage: tests/spoiled_requiring.py SPOIL PROGRAM
 
-answers as PROGRAM does but for what SPOIL changes of constraints: bare, turned, weaker, forgotten,
-refused or blunt.
+answers as PROGRAM does but for what SPOIL changes of constraints and definitions: bare, turned,
+weaker, forgotten, refused, blunt or other.
 """
 import os
 import re
@@ -18,7 +18,7 @@ from spoiled_solving import Spoiled
 from talking import Talk, has_reply
 from wide_rules import where_built
 
-FORGOTTEN, WRONG_FORM, WRONG_KIND = "ok", "error 4: wrong form", "error 13: wrong kind"
+DONE, WRONG_FORM, WRONG_KIND = "ok", "error 4: wrong form", "error 13: wrong kind"
 
 
 def bare(line: str) -> str:
@@ -38,8 +38,11 @@ def weaker(line: str) -> str:
 
 SPOILS: dict[str, Callable[[str], str]] = {it.__name__: it for it in (bare, turned, weaker)}
 # What is answered in place of the program, and what in place of any of its refusals.
-ANSWERED = {"forgotten": FORGOTTEN, "refused": WRONG_FORM}
+ANSWERED = {"forgotten": DONE, "refused": WRONG_FORM}
 BLUNT = "blunt"
+# What a definition says in place of its own value: the next number, or the other truth.
+OTHER = "other"
+OTHERS = ("{name} = ({value}) + 1", "{name} = not ({value})", "{name} = {value}")
 # What the networks have to say of it.
 SAYS = {
     "bare": "lost",
@@ -48,6 +51,7 @@ SAYS = {
     "forgotten": "wrong",
     "refused": WRONG_FORM,
     BLUNT: f"'{WRONG_KIND}'], and not",
+    OTHER: "lost",
 }
 
 
@@ -74,11 +78,26 @@ def cases() -> Iterator[SpoiledLines]:
 built = where_built(cases)
 
 
+def defined_otherwise(talk: Talk, line: str) -> list[str]:
+    """What is answered where a cell is defined by another value of its kind, if it has one."""
+    name, is_there, value = line.removeprefix("let ").partition(" = ")
+    if not is_there:
+        return talk.say(line)[0]
+    for other in OTHERS:
+        reply = talk.say("let " + other.format(name=name, value=value))[0]
+        if reply == [DONE]:
+            break
+    return reply
+
+
 def reply_to(spoil: str, talk: Talk, line: str) -> Optional[list[str]]:
     """What is answered, None where nothing is."""
     if not has_reply(line):
         return None
-    if line.split()[0] != "require":
+    word = line.split()[0]
+    if spoil == OTHER and word == "let":
+        return defined_otherwise(talk, line)
+    if word != "require" or spoil == OTHER:
         return talk.say(line)[0]
     if spoil in ANSWERED:
         return [ANSWERED[spoil]]

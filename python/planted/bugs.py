@@ -316,6 +316,24 @@ BUGS = [
         f"what_ifs::room_and_what_is_critical certificates::each_checks",
     ),
     Bug(
+        "questions/leaving.py",
+        "return Span(-MOST_NUMBER, value - 1)",
+        "return Span(-MOST_NUMBER, value)",
+        "chains::a_chain_is_the_reason",
+    ),
+    Bug(
+        "questions/leaving.py",
+        "it == name or it not in self.names",
+        "it == name",
+        "blamed::what_was_left_out_doesnt_come_back",
+    ),
+    Bug(
+        "planning/rooms.py",
+        "value < best if sort == LEAST else value > best",
+        "value < best",
+        "chains::a_chain_is_the_reason",
+    ),
+    Bug(
         "questions/exploring.py",
         "            if not mask & bit:\n",
         "            if mask & bit:\n",

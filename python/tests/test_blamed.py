@@ -12,9 +12,12 @@ from hypothesis import strategies as st
 from lines_model import LineModel
 from plainly import Names, conflicts_and_repairs
 
-from propbench import Session, Workbench
+from propbench import Session, Span, Workbench
+from propbench.clock import Clock
 from propbench.questions import Interrupted
 from propbench.questions.blaming import BlamedSets, certificate_of, evidence_of
+from propbench.questions.leaving import Leaving, why_not_beyond
+from propbench.questions.seeking import Seeker
 
 
 @pytest.fixture(autouse=True)
@@ -122,6 +125,37 @@ def test_why_an_end_is_none_other(lines: list[str], end: str) -> None:
         assert end_by(frozenset(found)) == found.value
         assert all(end_by(frozenset(found) - {name}) != found.value for name in found)
         assert found.certificate.check()
+
+
+@settings(max_examples=12 * TIMES)
+@given(model_lines(), st.sampled_from(["least", "greatest"]), st.integers(-2, 9))
+def test_why_nothing_is_better(lines: list[str], end: str, value: int) -> None:
+    """Of a plan that is better nothing is said; else what is named is enough, and needed."""
+    with Session() as session:
+        model = LineModel(session, lines)
+        cell = next(cell for cell, kind in model.kinds.items() if kind == "span")
+
+        def is_better(names: Names) -> bool:
+            values = (int(plan[cell]) for plan in model.all_plans(sorted(names)))
+            return any(it < value if end == "least" else it > value for it in values)
+
+        found = why_not_beyond(model, cell, end, value, Clock(None, None))
+        assert (found is None) == is_better(frozenset(model.believed()))
+        if found is not None:
+            named = frozenset(found.premises)
+            assert found.is_least and not is_better(named)
+            assert all(is_better(named - {name}) for name in named)
+
+
+def test_what_was_left_out_doesnt_come_back() -> None:
+    """Of three premises that say the same one stays."""
+    with Workbench() as w:
+        x = w.number("x", 0, 9)
+        for name in "abc":
+            w.require(x >= 5, under=name)
+        with Seeker(w.model, Clock(None, None)) as seeker:
+            leaving = Leaving(seeker, {seeker.lines["x"]: Span(0, 4)}, seeker.given())
+            assert leaving.run() and len(leaving.premises) == len(leaving.plans) == 1
 
 
 def test_what_is_kept_isnt_told_again() -> None:

@@ -1,6 +1,9 @@
 """Why a plan ends no sooner, beside all plans of a few tasks, gone through one by one."""
 
-from collections.abc import Collection, Iterator
+import json
+import random
+import time
+from collections.abc import Collection, Iterator, Mapping
 from dataclasses import dataclass
 from itertools import product
 
@@ -124,6 +127,64 @@ def test_a_chain_is_the_reason(case: Case) -> None:
         rooms = {f"t{number}": max(each) - min(each) for number, each in enumerate(zip(*best))}
         assert chain.rooms == {task: rooms[task] for task in rooms if task not in chain.tasks}
         assert {*rooms} <= {*str(chain).split()}
+
+
+def many_tasks(seed: int) -> list[Drawn]:
+    """31 tasks of three people in turn."""
+    draw = random.Random(seed)
+    return [
+        Drawn(
+            draw.randint(1, 6),
+            (("ana", "ben", "cid")[number % 3],),
+            tuple(it for it in range(number) if draw.random() < 0.06),
+        )
+        for number in range(31)
+    ]
+
+
+def ends_by(tasks: list[Drawn], values: Mapping[str, int], names: Collection[str]) -> int:
+    """When all is done in a plan, of which these premises are looked at one by one."""
+    lasts = [(values[f"t{number} start"], values[f"t{number} end"]) for number in range(31)]
+    for number, (start, end) in enumerate(lasts):
+        days, who = tasks[number].days, tasks[number].who[0]
+        assert end - start == days or f"t{number} takes {days}" not in names
+        for before in tasks[number].after:
+            assert lasts[before][1] <= start or f"t{number} after t{before}" not in names
+        for other in range(number):
+            if tasks[other].who[0] == who and f"{who} does one thing at a time" in names:
+                assert lasts[other][1] <= start or end <= lasts[other][0]
+    return max(end for _, end in lasts)
+
+
+@pytest.mark.parametrize("seed", range(3))
+def test_what_is_critical_of_many_tasks(seed: int, wide: str) -> None:
+    """It took longer than ten minutes. Somebody is busy all the time by what is named, so nothing
+    ends sooner; and without any one of these premises a plan of the certificate does."""
+    tasks, made = many_tasks(seed), list[Task]()
+    with Workbench(wide) as w:
+        p = w.project(days=99, people="ana ben cid")
+        for number, each in enumerate(tasks):
+            after = [made[before] for before in each.after]
+            made.append(p.task(f"t{number}", each.days, who=each.who, after=after))
+        began, best = time.monotonic(), w.least(p.end)
+        critical, chain = w.critical(p.end), p.critical(best)
+        assert time.monotonic() - began < 240
+        assert critical.complete and chain.complete and critical.value == chain.schedule.end
+        for names in ({*critical}, {*chain.premises}):
+            who = [person for person in p.people if f"{person} does one thing at a time" in names]
+            own = [each for each in enumerate(tasks) if each[1].who[0] in who]
+            busy = sum(each.days for number, each in own if f"t{number} takes {each.days}" in names)
+            assert len(who) == 1 and busy == best.value
+        certificate = critical.certificate
+        assert certificate is not None and certificate.check(wide)
+        lines = {w.model.cell_name(cell): cell for cell in w.model.cells()}
+        ends = {}
+        for plan in json.loads(certificate.lines[2])["plans"]:
+            named = {it for it in critical if w.model.line_name(it) in plan["in"]}
+            values = {lines[it]: int(text) for it, text in plan["values"].items() if it in lines}
+            ends[frozenset(named)] = ends_by(tasks, values, named)
+        without = [ends[frozenset(critical) - {premise}] for premise in critical]
+        assert max(without) < critical.value
 
 
 @settings(max_examples=20 * TIMES)

@@ -94,6 +94,17 @@ one_passed : (r : Refusal) (b : Bool) (rest : List (Option Refusal)) → first_o
 one_passed r true rest e = cc
 one_passed r false rest e = (refl, e)
 
+-- why steps are refused for what they use, by whether some use what is not there or a wrong number of cells
+pub same_uses : (library : List Stored) (definitions : Definitions) (steps : List commands.Step) (unknown counts : Bool)
+    → unknown ≡ list_any (is_unknown library definitions) steps
+    → counts ≡ list_any (is_count_wrong library definitions) steps
+    → first_of (when NoSuchProcedure unknown ∷ when WrongCount counts
+    ∷ when (LimitReached TooMany) (nat_le (most TooMany) (length definitions.definitions)) ∷ [])
+    ≡ first_of (uses_refusals library definitions steps)
+same_uses library definitions steps unknown counts e f =
+    (λ i. first_of (when NoSuchProcedure (e i) ∷ when WrongCount (f i)
+    ∷ when (LimitReached TooMany) (nat_le (most TooMany) (length definitions.definitions)) ∷ []))
+
 module _ (library : List Stored) (words : Vocabulary) (definitions : Definitions) (params : List (List ℕ))
     (steps : List commands.Step) where
   -- what the steps of a definition that is not refused have

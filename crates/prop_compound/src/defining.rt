@@ -1,16 +1,15 @@
 //! Making a definition.
 ghost use Rattle.std.specs.Prelude.{◌≡◌, ◌≤◌, ◌++◌, ◌∷◌, [], false, All, length, map, take, drop};
-ghost use Rattle.std.specs.Prelude.{IfOk, IfErr, IfSome, OnOk, OnErr, Err, None, Some};
+ghost use Rattle.std.specs.Prelude.{IfOk, IfErr, IfSome, OnOk, OnErr, Err, None, Some, nat_le};
 ghost use Rattle.std.specs.List.{flat_map};
-ghost use Rattle.prop_refusals.specs.Refusals.{first_of};
+ghost use Rattle.prop_refusals.specs.Refusals.{first_of, most, when};
 ghost use Rattle.prop_procedures.specs.Kept.{stored_of};
 ghost use Rattle.prop_vocabulary.specs.Names.{number_in};
 ghost use Rattle.prop_vocabulary.specs.Refusing.{IsReason};
 ghost use Rattle.prop_language.specs.Said.{words as words_of, step_of};
 ghost use Rattle.prop_compound.specs.Definitions.{used_named};
 ghost use Rattle.prop_compound.specs.Defining.{locals_of, scope_of, definition_of, with_definition};
-ghost use Rattle.prop_compound.specs.Defining.{is_name_taken, words_refusals, uses_refusals};
-ghost use Rattle.prop_compound.specs.Defining.{define_refusal};
+ghost use Rattle.prop_compound.specs.Defining.{is_name_taken, words_refusals, define_refusal};
 ghost use Rattle.prop_compound.specs.inner.Defining.{IsNameReason, steps_refusal};
 ghost use Rattle.prop_compound.specs.Kinds.{IsSized, IsLocalOf, AreLocalsOf};
 ghost use Rattle.prop_compound.specs.Kept.{bare, IsUseOver, IsDefinedOver};
@@ -61,16 +60,18 @@ fn words_refusal(
 }
 
 impl Definitions {
-    /// Why steps may not be defined for what they use, or for the count of definitions: 11, 12 or
-    /// 16.
-    fn uses_refusal<R: Rule + Drop>(&self, library: &Library<R>, steps: &[Step]) -> Option<Refusal>
-        ensures { result ≡ first_of (uses_refusals (stored_of R.value_of library.now) self.now
-            (map step_of steps.now)) }
+    /// Why steps may not be defined that use what isn't there, or another number of cells than
+    /// wanted, or for the count of definitions: 11, 12 or 16.
+    fn uses_refusal(&self, is_unknown: bool, is_count_wrong: bool) -> Option<Refusal>
+        ensures { result ≡ first_of (when Refusal.NoSuchProcedure is_unknown
+            ∷ when Refusal.WrongCount is_count_wrong
+            ∷ when (Refusal.LimitReached Limit.Definitions)
+            (nat_le (most Limit.Definitions) (length self.now.definitions)) ∷ []) }
     {
-        if self.has_unknown(library, steps) {
+        if is_unknown {
             return Some(Refusal::NoSuchProcedure);
         }
-        if self.has_count_wrong(library, steps) {
+        if is_count_wrong {
             return Some(Refusal::WrongCount);
         }
         if self.len() >= Limit::Definitions.most() {
@@ -134,13 +135,13 @@ impl Definitions {
         if let Some(refusal) = words_refusal(words, scope, said.params.len(), said.steps) {
             return Err(refusal);
         }
-        if let Some(refusal) = self.uses_refusal(library, said.steps) {
+        let Ok(all) = self.all_numbered(alloc, library, words, scope, said.steps) else {
+            return Err(Refusal::Memory);
+        };
+        if let Some(refusal) = self.uses_refusal(all.is_unknown, all.is_count_wrong) {
             return Err(refusal);
         }
-        match self.all_numbered(alloc, library, words, scope, said.steps) {
-            Ok(numbered) => counted(alloc, &self.definitions, said.params.len(), numbered),
-            Err(AllocError) => Err(Refusal::Memory),
-        }
+        counted(alloc, &self.definitions, said.params.len(), all.steps)
     }
 
     /// The definition by numbers, with what is known of its uses, or why it may not be made, where

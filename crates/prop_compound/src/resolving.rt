@@ -1,11 +1,12 @@
 //! What the words of a definition stand for.
-ghost use Rattle.std.specs.Prelude.{◌≡◌, All, map, IfOk};
+ghost use Rattle.std.specs.Prelude.{◌≡◌, All, map, IfOk, IfSome};
 ghost use Rattle.std.specs.List.{list_any};
 ghost use Rattle.prop_procedures.specs.Kept.{stored_of};
 ghost use Rattle.prop_language.specs.Said.{passed_of, step_of};
 ghost use Rattle.prop_compound.specs.Kinds.{IsSized, IsLocalOf};
 ghost use Rattle.prop_compound.specs.Defining.{passing_named, step_numbered, is_domain_missing};
 ghost use Rattle.prop_compound.specs.Defining.{is_relation_missing, is_unknown, is_count_wrong};
+ghost use Rattle.prop_compound.specs.inner.Defining.{used_by, is_unknown_by, numbered_by};
 
 use crate::definition::{NumberedStep, Passing, Places, Used};
 use crate::definitions::Definitions;
@@ -72,87 +73,89 @@ pub(crate) fn has_relation_missing(words: &Vocabulary, steps: &[Step]) -> bool
     )
 }
 
+/// Steps by numbers, and whether some use what isn't there, or another number of cells than wanted.
+#[derive(Drop)]
+pub(crate) struct Resolved {
+    pub(crate) steps: Vec<NumberedStep>,
+    pub(crate) is_unknown: bool,
+    pub(crate) is_count_wrong: bool,
+}
+
+/// Whether the step uses what is neither a procedure nor a definition, where it uses this.
+fn is_unknown(step: &Step, used: Option<Used>) -> bool
+    ensures { result ≡ is_unknown_by used (step_of step.now) }
+{
+    match step {
+        Step::Use(_, _, _) => used.is_none(),
+        _ => false,
+    }
+}
+
+/// The step by numbers, where it uses this.
+fn numbered(
+    alloc: Global,
+    words: &Vocabulary,
+    scope: &Names,
+    step: &Step,
+    used: Option<Used>,
+) -> Result<NumberedStep, AllocError>
+    ensures numbered { IfOk result
+        (λ numbered. numbered ≡ numbered_by words.now scope.now used (step_of step.now)) }
+    ensures local { IfOk result (IsLocalOf (IsSized words.now)) }
+{
+    match step {
+        Step::Local(_, kind) => {
+            let kind = kind_named(words, *kind).unwrap_or(span_kinded());
+            Ok(NumberedStep::Local(kind))
+        }
+        Step::Like(_, like) => Ok(NumberedStep::Like(scope.number(like))),
+        Step::Use(_, cells, passed) => {
+            let used = used.unwrap_or(Used::Procedure(0));
+            let places = Places::new(scope.numbers(alloc, cells)?);
+            Ok(NumberedStep::Use(used, places, passing_named(words, *passed)))
+        }
+    }
+}
+
 impl Definitions {
-    /// Whether the step uses what is neither a procedure nor a definition.
-    fn is_unknown<R: Rule + Drop>(&self, library: &Library<R>, step: &Step) -> bool
-        ensures { result ≡ is_unknown (stored_of R.value_of library.now) self.now
-            (step_of step.now) }
+    /// What the step uses: nothing where it makes a local, or where what it names isn't there. It
+    /// is looked up unless the step before it, which used `before`, has the same name.
+    fn used_by<R: Rule + Drop>(
+        &self,
+        library: &Library<R>,
+        step: &Step,
+        previous: Option<&Step>,
+        before: Option<Used>,
+    ) -> Option<Used>
+        requires { IfSome previous (λ it. before
+            ≡ used_by (stored_of R.value_of library.now) self.now (step_of it.now)) }
+        ensures used { result
+            ≡ used_by (stored_of R.value_of library.now) self.now (step_of step.now) }
     {
-        match step {
-            Step::Use(name, _, _) => self.used(library, name).is_none(),
-            _ => false,
+        let Step::Use(name, _, _) = step else {
+            return None;
+        };
+        match previous {
+            Some(Step::Use(other, _, _)) if other == name => before,
+            _ => self.used(library, name),
         }
     }
 
-    /// Whether some step does.
-    pub(crate) fn has_unknown<R: Rule + Drop>(&self, library: &Library<R>, steps: &[Step]) -> bool
-        ensures { result ≡ list_any (λ step.
-            is_unknown (stored_of R.value_of library.now) self.now (step_of step)) steps.now }
-    {
-        steps.iter().any(
-            |step: &Step| -> bool
-                ensures { result ≡ is_unknown (stored_of R.value_of library.entry.now)
-                    self.entry.now (step_of step.now) }
-            { self.is_unknown(library, step) },
-        )
-    }
-
-    /// Whether the step uses a procedure or a definition on another number of cells than it wants.
-    fn is_count_wrong<R: Rule + Drop>(&self, library: &Library<R>, step: &Step) -> bool
+    /// Whether a step that uses this on so many cells should name another number of them.
+    fn is_count_wrong<R: Rule + Drop>(
+        &self,
+        library: &Library<R>,
+        step: &Step,
+        used: Option<Used>,
+    ) -> bool
+        requires { used ≡ used_by (stored_of R.value_of library.now) self.now (step_of step.now) }
         ensures { result ≡ is_count_wrong (stored_of R.value_of library.now) self.now
             (step_of step.now) }
     {
-        let Step::Use(name, cells, _) = step else {
-            return false;
-        };
-        match self.used(library, name) {
-            Some(used) => self.is_miscounted(library, used, cells.len()),
-            None => false,
-        }
-    }
-
-    /// Whether some step does.
-    pub(crate) fn has_count_wrong<R: Rule + Drop>(
-        &self,
-        library: &Library<R>,
-        steps: &[Step],
-    ) -> bool
-        ensures { result ≡ list_any (λ step.
-            is_count_wrong (stored_of R.value_of library.now) self.now (step_of step)) steps.now }
-    {
-        steps.iter().any(
-            |step: &Step| -> bool
-                ensures { result ≡ is_count_wrong (stored_of R.value_of library.entry.now)
-                    self.entry.now (step_of step.now) }
-            { self.is_count_wrong(library, step) },
-        )
-    }
-
-    /// The step by numbers.
-    fn numbered<R: Rule + Drop>(
-        &self,
-        alloc: Global,
-        library: &Library<R>,
-        words: &Vocabulary,
-        scope: &Names,
-        step: &Step,
-    ) -> Result<NumberedStep, AllocError>
-        ensures numbered { IfOk result
-            (λ numbered. numbered ≡ step_numbered (stored_of R.value_of library.now) words.now
-            self.now scope.now (step_of step.now)) }
-        ensures local { IfOk result (IsLocalOf (IsSized words.now)) }
-    {
-        match step {
-            Step::Local(_, kind) => {
-                let kind = kind_named(words, *kind).unwrap_or(span_kinded());
-                Ok(NumberedStep::Local(kind))
-            }
-            Step::Like(_, like) => Ok(NumberedStep::Like(scope.number(like))),
-            Step::Use(name, cells, passed) => {
-                let used = self.used(library, name).unwrap_or(Used::Procedure(0));
-                let places = Places::new(scope.numbers(alloc, cells)?);
-                Ok(NumberedStep::Use(used, places, passing_named(words, *passed)))
-            }
+        let _ = &self.names;
+        match (step, used) {
+            (Step::Use(_, cells, _), Some(used)) => self.is_miscounted(library, used, cells.len()),
+            _ => false,
         }
     }
 
@@ -164,15 +167,30 @@ impl Definitions {
         words: &Vocabulary,
         scope: &Names,
         steps: &[Step],
-    ) -> Result<Vec<NumberedStep>, AllocError>
-        ensures steps { IfOk result (λ all. all.items ≡ map
+    ) -> Result<Resolved, AllocError>
+        ensures steps { IfOk result (λ all. all.steps.items ≡ map
             (step_numbered (stored_of R.value_of library.now) words.now self.now scope.now)
             (map step_of steps.now)) }
-        ensures locals { IfOk result (λ all. All (IsLocalOf (IsSized words.now)) all.items) }
+        ensures locals { IfOk result (λ all. All (IsLocalOf (IsSized words.now)) all.steps.items) }
+        ensures unknown { IfOk result (λ all. all.is_unknown ≡ list_any
+            (is_unknown (stored_of R.value_of library.now) self.now) (map step_of steps.now)) }
+        ensures counts { IfOk result (λ all. all.is_count_wrong ≡ list_any
+            (is_count_wrong (stored_of R.value_of library.now) self.now)
+            (map step_of steps.now)) }
     {
-        let mut all = Vec::new(alloc);
+        let mut all = Resolved {
+            steps: Vec::new(alloc),
+            is_unknown: false,
+            is_count_wrong: false,
+        };
+        let mut previous: Option<&Step> = None;
+        let mut used: Option<Used> = None;
         for step in steps {
-            all.push(self.numbered(alloc, library, words, scope, step)?)?;
+            used = self.used_by(library, step, previous, used);
+            previous = Some(step);
+            all.is_unknown = all.is_unknown || is_unknown(step, used);
+            all.is_count_wrong = all.is_count_wrong || self.is_count_wrong(library, step, used);
+            all.steps.push(numbered(alloc, words, scope, step, used)?)?;
         }
         Ok(all)
     }

@@ -8,3 +8,4 @@ pub mod Allowing
 pub mod Demanding
 pub mod Core
 pub mod Demands
+pub mod Foreseeing

@@ -1,4 +1,5 @@
 pub mod Naming
 pub mod Demanding
+pub mod Foreseeing
 pub mod Refusing
 pub mod inner

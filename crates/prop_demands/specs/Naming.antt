@@ -4,6 +4,7 @@ use Rattle.std.specs.Prelude.{replicate, slice_index_or}
 use Rattle.std.specs.Option.{option_map_or}
 use Rattle.std.specs.Str.{is_utf8}
 use Rattle.prop_lattice.specs.Points.{Point}
+use Rattle.prop_lattice.specs.declared.info.Kind.{Kind}
 use Rattle.prop_procedures.specs.Fitting.{kind_at}
 use Rattle.prop_meaning.specs.Words.{domain_of}
 use Rattle.prop_terms.specs.Meaning.{Names, Text, Value, value_of}
@@ -36,11 +37,14 @@ symbol_word symbols n =
 abbrev pub cell_called : State → List ℕ → Option ℕ
 cell_called s w = cond (is_utf8 w) (cell_named s.names w) None
 
+-- the value of a point of this kind
+abbrev pub value_in : State → Kind → Point → Value
+value_in s k p = value_of
+    (λ i. slice_index_or (elements_of s.words (domain_of k)) i []) (symbol_word s.words.symbols) p
+
 -- the value of a cell at these points
 abbrev pub value_at : State → (ℕ → Point) → ℕ → Value
-value_at s points cell = value_of
-    (λ i. slice_index_or (elements_of s.words (domain_of (kind_at s.kinds cell).kind)) i [])
-    (symbol_word s.words.symbols) (points cell)
+value_at s points cell = value_in s (kind_at s.kinds cell).kind (points cell)
 
 -- The name of a cell stands for the cell's value at these points, and any other word for itself.
 -- Which values belong to a relation is left to `related`.

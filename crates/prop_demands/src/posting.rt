@@ -2,6 +2,7 @@
 
 ghost use Rattle.std.specs.Prelude.{◌≡◌, ◌⊎◌, map, true, IfErr, IfOk};
 ghost use Rattle.prop_terms.specs.Terms.{term_of};
+ghost use Rattle.prop_meaning.specs.Foreseeing.{IsForeseen};
 ghost use Rattle.prop_demands.specs.Refusing.{is_of_term};
 ghost use Rattle.prop_demands.specs.inner.Glossaries.{lexicon_in, seen_of};
 ghost use Rattle.prop_demands.specs.inner.Postings.{IsPostingOf, IsUnderstood, constant_of};
@@ -9,8 +10,10 @@ ghost use Rattle.prop_demands.specs.inner.Postings.{IsPostingOf, IsUnderstood, c
 use crate::fitting::fits;
 use crate::forms::Numbers;
 use crate::reading::Glossary;
-use prop_lattice::Info;
-use prop_meaning::{Posted, Why, flat, post};
+use prop_lattice::{Info, Kind};
+use prop_meaning::{Foreseen, Posted, Why, flat, foresee, kind_of_term, post};
+use prop_procedures::Kinded;
+use prop_procedures::fitting::span_kinded;
 use prop_refusals::Refusal;
 use prop_terms::Term;
 use prop_workbench::{Posting, Stated};
@@ -25,7 +28,7 @@ fn refusal_of(why: Why) -> Refusal
         Why::NoSuchCell => Refusal::NoSuchCell,
         Why::NotInDomain => Refusal::NotInTheDomain,
         Why::WrongKind => Refusal::WrongKind,
-        Why::OutOfRange | Why::MayBeZero => Refusal::NotANumber,
+        Why::OutOfRange | Why::MayBeZero | Why::MayBeMissing => Refusal::NotANumber,
         Why::TwoReadings | Why::WrongForm | Why::NotYet => Refusal::WrongForm,
     }
 }
@@ -73,4 +76,45 @@ pub(crate) fn posting(
         return Err(Refusal::WrongKind);
     }
     Ok(posting_of(alloc, &posted)?)
+}
+
+/// What is foreseen of a term's value, which is to be of a kind.
+fn foreseen_as(
+    alloc: Global,
+    glossary: &Glossary<'_>,
+    term: &Term<'_>,
+    kinded: Kinded,
+) -> Result<Foreseen, Refusal>
+    ensures foreseen { IfOk result
+        (λ f. IsForeseen (lexicon_in (seen_of glossary.now)) (term_of term.now) f.known) }
+    ensures refused { IfErr result (λ e. (e ≡ Refusal.Memory) ⊎ (is_of_term e ≡ true)) }
+{
+    match foresee(alloc, glossary, term, kinded) {
+        Ok(foreseen) => Ok(foreseen),
+        Err(fault) => Err(refusal_of(fault.why)),
+    }
+}
+
+/// What is foreseen of a term's value. What shows no kind of its own, as `yes`, may be a truth, and
+/// is told to be no number else.
+pub(crate) fn foreseen_of(
+    alloc: Global,
+    glossary: &Glossary<'_>,
+    term: &Term<'_>,
+) -> Result<Foreseen, Refusal>
+    ensures foreseen { IfOk result
+        (λ f. IsForeseen (lexicon_in (seen_of glossary.now)) (term_of term.now) f.known) }
+    ensures refused { IfErr result (λ e. (e ≡ Refusal.Memory) ⊎ (is_of_term e ≡ true)) }
+{
+    if let Some(kinded) = kind_of_term(glossary, term) {
+        return foreseen_as(alloc, glossary, term, kinded);
+    }
+    let truth = Kinded {
+        kind: Kind::Set(0),
+        size: 2,
+    };
+    match foreseen_as(alloc, glossary, term, truth) {
+        Ok(foreseen) => Ok(foreseen),
+        Err(_) => foreseen_as(alloc, glossary, term, span_kinded()),
+    }
 }

@@ -52,6 +52,13 @@ impl<A: Guarded, B: Guarded> Guarded for Both<A, B> {
         }
     }
 
+    fn heeds_under(&self, place: usize, count: usize, element: u64) -> Changes {
+        match self {
+            Both::One(rule) => rule.heeds_under(place, count, element),
+            Both::Two(rule) => rule.heeds_under(place, count, element),
+        }
+    }
+
     fn waits_for(&self) -> Option<usize> {
         match self {
             Both::One(rule) => rule.waits_for(),

@@ -51,6 +51,12 @@ pub trait Guarded: Rule {
     /// output's, all of its changes count.
     fn heeds(&self, place: usize, count: usize) -> Changes;
 
+    /// The same, once of the input that is waited for (`waits_for`) this element alone is left, as
+    /// a bit.
+    fn heeds_under(&self, place: usize, count: usize, _element: u64) -> Changes {
+        self.heeds(place, count)
+    }
+
     /// The place of an input of which one value alone has to be left before a call says anything,
     /// where there is one. This is a hint.
     fn waits_for(&self) -> Option<usize>;

@@ -8,7 +8,7 @@ ghost use Rattle.prop_sets.specs.Truth.{is_nothing, leaves};
 
 use crate::guarded::Guarded;
 use crate::known::{
-    ENDS, POINT, is_just, is_nothing, is_settled, is_single, number_of, some_unknown,
+    ENDS, HIGH, LOW, POINT, is_just, is_nothing, is_settled, is_single, number_of, some_unknown,
 };
 use prop_arith::Kit;
 use prop_facts::Changes;
@@ -135,6 +135,16 @@ impl Guarded for Kit {
             (Kit::Not | Kit::And | Kit::AndBack | Kit::Or | Kit::OrBack, _) => POINT,
             (Kit::Copy | Kit::Alike | Kit::Switch | Kit::Image | Kit::Coimage, _) => Changes::ALL,
             _ => ENDS,
+        }
+    }
+
+    fn heeds_under(&self, place: usize, count: usize, element: u64) -> Changes {
+        match (self, place) {
+            (Kit::Below, 1) if element == YES => HIGH,
+            (Kit::Below, 1) if element == NO => LOW,
+            (Kit::Above, 1) if element == YES => LOW,
+            (Kit::Above, 1) if element == NO => HIGH,
+            _ => self.heeds(place, count),
         }
     }
 

@@ -18,6 +18,22 @@ pub(crate) const ENDS: Changes = Changes {
     hole: false,
 };
 
+/// The change of a number's lower end.
+pub(crate) const LOW: Changes = Changes {
+    low: true,
+    high: false,
+    point: false,
+    hole: false,
+};
+
+/// The change of a number's upper end.
+pub(crate) const HIGH: Changes = Changes {
+    low: false,
+    high: true,
+    point: false,
+    hole: false,
+};
+
 /// The change to one value alone.
 pub(crate) const POINT: Changes = Changes {
     low: false,

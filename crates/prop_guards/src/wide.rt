@@ -6,7 +6,7 @@ ghost use Rattle.prop_guards.specs.laws.WideLaws.{wide_silent};
 ghost use Rattle.prop_wide.specs.declared.wide.Wide.TheVariants.{Choose};
 
 use crate::guarded::Guarded;
-use crate::known::{ENDS, POINT, is_nothing};
+use crate::known::{ENDS, HIGH, LOW, POINT, is_nothing};
 use prop_facts::Changes;
 use prop_lattice::Info;
 use prop_procedures::Param;
@@ -80,6 +80,8 @@ impl Guarded for Wide {
             (Wide::Choose | Wide::Decide, _) => Changes::ALL,
             (Wide::CountBack, 0) => ENDS,
             (Wide::CountBack, _) => POINT,
+            (Wide::MaxBack, 1) => HIGH,
+            (Wide::MinBack, 1) => LOW,
             _ => ENDS,
         }
     }
@@ -88,8 +90,9 @@ impl Guarded for Wide {
         None
     }
 
+    // (they stand in trees above many ends, and take the best of what all of these came to)
     fn is_dear(&self, _count: usize) -> bool {
-        false
+        matches!(self, Wide::Max | Wide::MaxBack | Wide::Min | Wide::MinBack)
     }
 
     ghost silent = { wide_silent };

@@ -58,7 +58,7 @@ same_mapped y f g x same (s ∷ ss) =
     ∙ ap (merge_of (g s)) (same_mapped y f g x same ss)
 
 -- what is known already makes no difference
-known_already : (y known : Info) → Below y known → merge_of y known ≡ known
+pub known_already : (y known : Info) → Below y known → merge_of y known ≡ known
 known_already y known h =
     let above = info_laws.least_above y known in
     info_laws.antisymmetric (merge_of y known) known (above.least known h (info_laws.reflexive known))

@@ -70,7 +70,7 @@ last_gains h x g = omega (
 
 -- ---- of spans
 
-abbrev joined : spans.Span → spans.Span → spans.Span
+abbrev pub joined : spans.Span → spans.Span → spans.Span
 joined a b = record {
   lo = int_min a.lo b.lo;
   hi = int_max a.hi b.hi;
@@ -79,7 +79,7 @@ joined a b = record {
   below = omega (arith, ints, clamps, a.below, b.below);
 }
 
-joined_is : (a b : spans.Span) → hull_of_two (Span a) (Span b) ≡ Span (joined a b)
+pub joined_is : (a b : spans.Span) → hull_of_two (Span a) (Span b) ≡ Span (joined a b)
 joined_is a b = sym (span_is (int_min a.lo b.lo) (int_max a.hi b.hi) (joined a b) refl refl)
 
 ends_gain : (al ah bl bh cl ch : ℤ)
@@ -192,7 +192,7 @@ others_wider : (y h k : sets.Elements) → HasBitsOf k.bits h.bits
 others_wider y h k p i q =
     others_has y h i (others_part y.bits k.bits i q) (λ e. others_lacks y k i q (p i e))
 
-without_none : (y : Info) → without_of y Contradiction ≡ y
+pub without_none : (y : Info) → without_of y Contradiction ≡ y
 without_none Nothing = refl
 without_none (Span y) = refl
 without_none (Set y) = refl

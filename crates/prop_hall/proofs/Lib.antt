@@ -10,3 +10,4 @@ pub mod SpanRuns
 pub mod SpanEnds
 pub mod SpanLemmas
 pub mod UnknownLemmas
+pub mod ByEndLemmas

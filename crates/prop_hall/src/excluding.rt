@@ -8,6 +8,7 @@ ghost use Rattle.prop_hall.specs.Unknown.{UnknownSaysNothing};
 ghost use Rattle.prop_hall.specs.inner.Extensions.{GainsLittle, extended};
 
 use crate::hulls::{hull, points_in, without};
+use crate::spans::{ByEnd, exclude_numbers};
 use prop_lattice::{Info, Partial};
 
 /// Some of the others: how many, what all of them say, and how many points that leaves.
@@ -93,7 +94,10 @@ pub fn exclude(y: Info, others: &[Info]) -> Info
         hull: Info::Contradiction,
         points: 0,
     };
-    extended(y, y, none, others)
+    match ByEnd::of(others) {
+        Some(by_end) => exclude_numbers(y, by_end.as_slice()),
+        None => extended(y, y, none, others),
+    }
 }
 
 /// A law, of sets and of spans: what `exclude` answers is the narrowest information that holds each

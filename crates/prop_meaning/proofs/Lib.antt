@@ -15,3 +15,5 @@ pub mod Goodness
 pub mod DividingLemmas
 pub mod Naming
 pub mod Different
+pub mod ForeseeLemmas
+pub mod TableLemmas

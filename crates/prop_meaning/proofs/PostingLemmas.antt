@@ -65,7 +65,7 @@ solved lexicon made posted place a sound are r =
       acts = rw (are.acts) (all_acts_forth lexicon made a sound r.given kinds r.fresh);
     }
 
-runs : (lexicon : Lexicon) (made : List Made) (points : ℕ → Point) → IsSound lexicon made → IsLexicon lexicon
+pub runs : (lexicon : Lexicon) (made : List Made) (points : ℕ → Point) → IsSound lexicon made → IsLexicon lexicon
     → Fits lexicon points → Runs lexicon made (made_from lexicon.count made points)
 runs lexicon made points sound law fits = record {
   words = law;

@@ -10,7 +10,7 @@ use Rattle.prop_terms.specs.declared.operators.Infix.TheVariants.{Then, Else, Pl
 use Rattle.prop_terms.specs.declared.operators.Infix.TheVariants.{Over, Remainder, Power, Iff, Xor}
 use Rattle.prop_terms.specs.declared.operators.Infix.TheVariants.{Implies, Or, And, Equal, Unequal}
 use Rattle.prop_terms.specs.declared.operators.Infix.TheVariants.{Less, AtMost, Greater, AtLeast}
-use Rattle.prop_terms.specs.declared.operators.Infix.TheVariants.{In}
+use Rattle.prop_terms.specs.declared.operators.Infix.TheVariants.{In, Semicolon, Comma, Colon}
 use Rattle.prop_meaning.specs.Words.{Lexicon}
 
 abbrev pub a_number : Option Kinded
@@ -40,17 +40,21 @@ made_kind AtLeast = a_truth
 made_kind In = a_truth
 made_kind op = None
 
--- A name shows the kind of the given cell that it names. A choice shows the kind of a branch, of
--- the first that shows one. Nothing shows of another word, nor of what is looked up.
+-- A name shows the kind of the given cell that it names, and nothing shows of another word. A
+-- choice shows the kind of a branch, a table that of what is behind a label, and a list that of one
+-- of its terms: of the first that shows one.
 abbrev pub kind_shown : Lexicon → Term → Option Kinded
 kind_shown lexicon (Number n) = a_number
 kind_shown lexicon (Name w) = option_map (λ i. (lexicon.known i).kinded) (lexicon.cell w)
 kind_shown lexicon (One before.Not t) = a_truth
 kind_shown lexicon (One before.Different t) = a_truth
 kind_shown lexicon (One before.If t) = kind_shown lexicon t
-kind_shown lexicon (One before.Element t) = None
+kind_shown lexicon (One before.Element t) = kind_shown lexicon t
 kind_shown lexicon (One op t) = a_number
 kind_shown lexicon (Two Then t u) = kind_shown lexicon u
+kind_shown lexicon (Two Semicolon t u) = kind_shown lexicon u
+kind_shown lexicon (Two Colon t u) = kind_shown lexicon u
+kind_shown lexicon (Two Comma t u) = option_or (kind_shown lexicon t) (kind_shown lexicon u)
 kind_shown lexicon (Two Else t u) = option_or (kind_shown lexicon t) (kind_shown lexicon u)
 kind_shown lexicon (Two op t u) = made_kind op
 kind_shown lexicon (Braces t) = None

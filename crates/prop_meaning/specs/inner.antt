@@ -4,3 +4,4 @@ pub mod Spans
 pub mod Formulas
 pub mod Lists
 pub mod Expanding
+pub mod Tables

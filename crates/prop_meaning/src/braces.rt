@@ -18,7 +18,7 @@ use prop_procedures::Kinded;
 use prop_terms::{Infix, Prefix, Term};
 
 /// The number that stands in braces, at most 10^18 either way.
-fn number_of(term: &Term<'_>) -> Option<i64>
+pub(crate) fn number_of(term: &Term<'_>) -> Option<i64>
     ensures is { IfSome result (λ z. label (term_of term.now) ≡ Some (Whole z)) }
     ensures low { IfSome result (λ z. neg_ℤ (pos 1_000_000_000_000_000_000) ≤ℤ z) }
     ensures high { IfSome result (λ z. z ≤ℤ pos 1_000_000_000_000_000_000) }
@@ -58,7 +58,7 @@ fn labelled<W: Words>(
 }
 
 /// The cell of whether a cell is the word or the number.
-fn is_labelled<'t, 'a, W: Words>(
+pub(crate) fn is_labelled<'t, 'a, W: Words>(
     words: &W,
     made: &mut Vec<Made>,
     x: usize,

@@ -19,9 +19,11 @@ pub enum Why {
     OutOfRange,
     /// Its divisor may be zero.
     MayBeZero,
+    /// A table may have no row for it.
+    MayBeMissing,
     /// It stands where none of its form may.
     WrongForm,
-    /// It is an expression that can't be posted yet: `element` or `in` a relation.
+    /// It is an expression that can't be posted yet: `in` a relation.
     NotYet,
 }
 

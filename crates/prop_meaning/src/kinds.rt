@@ -22,11 +22,12 @@ pub fn kind_of_term<W: Words>(words: &W, term: &Term<'_>) -> Option<Kinded>
             None => None,
         },
         Term::One(Prefix::Not | Prefix::Different, _) => Some(TRUTH),
-        Term::One(Prefix::If, ways) => kind_of_term(words, ways),
-        Term::One(Prefix::Element, _) => None,
+        Term::One(Prefix::If | Prefix::Element, ways) => kind_of_term(words, ways),
         Term::One(_, _) => Some(NUMBER),
-        Term::Two(Infix::Then, _, ways) => kind_of_term(words, ways),
-        Term::Two(Infix::Else, left, right) => match kind_of_term(words, left) {
+        Term::Two(Infix::Then | Infix::Semicolon | Infix::Colon, _, ways) => {
+            kind_of_term(words, ways)
+        }
+        Term::Two(Infix::Else | Infix::Comma, left, right) => match kind_of_term(words, left) {
             Some(kinded) => Some(kinded),
             None => kind_of_term(words, right),
         },
@@ -77,17 +78,6 @@ fn kind_of_both<W: Words>(words: &W, left: &Term<'_>, right: &Term<'_>) -> Resul
             Some(kinded) => Ok(kinded),
             None => Err(Why::NoSuchCell),
         },
-    }
-}
-
-/// The kind of the terms between commas, or of the one that there is, by the first that shows it.
-pub(crate) fn kind_of_some<W: Words>(words: &W, list: &Term<'_>) -> Option<Kinded> {
-    match list {
-        Term::Two(Infix::Comma, others, last) => match kind_of_some(words, others) {
-            Some(kinded) => Some(kinded),
-            None => kind_of_term(words, last),
-        },
-        term => kind_of_term(words, term),
     }
 }
 

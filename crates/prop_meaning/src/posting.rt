@@ -68,7 +68,7 @@ fn constants_of(
 }
 
 /// All of them.
-fn put_together(
+pub(crate) fn put_together(
     alloc: Global,
     count: usize,
     made: &[Made],

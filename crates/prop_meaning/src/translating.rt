@@ -6,9 +6,10 @@ ghost use Rattle.prop_meaning.specs.inner.Drafts.{Has, IsSound, Grown, Shows, nu
 ghost use Rattle.prop_meaning.specs.inner.Drafts.{truth_kind};
 ghost use Rattle.prop_meaning.specs.inner.Lists.{is_gathering, different_of, unequal_to};
 ghost use Rattle.prop_meaning.specs.inner.Lists.{ShowsWith};
+ghost use Rattle.prop_meaning.specs.inner.Tables.{Chooses, Finds};
 ghost use Rattle.prop_terms.specs.declared.operators.Infix.TheVariants.{Equal, Unequal};
 
-use crate::braces::among;
+use crate::braces::{among, is_labelled};
 use crate::combining::{
     between, combined, is_choice, is_in, is_list, is_range, is_taken, kind_before, kind_of,
     prefixed,
@@ -17,9 +18,10 @@ use crate::constants::{name, number};
 use crate::draft::Made;
 use crate::fault::{Fault, Why};
 use crate::gathering::{alone, gathered, is_different, is_gathering, kind_within};
-use crate::kinds::{kind_of_some, kind_of_term, sides};
+use crate::kinds::{kind_of_term, sides};
 use crate::making::{NUMBER, TRUTH, choice, is_same_kind};
 use crate::powers::{is_power, power};
+use crate::tables::{Lookup, has_all_keys, is_label, is_lookup, is_row};
 use crate::words::Words;
 use prop_procedures::Kinded;
 use prop_terms::{Infix, Prefix, Term};
@@ -139,6 +141,9 @@ fn before_one<'t, 'a, W: Words>(
     }
     if matches!(*op, Prefix::Different) {
         return all_different(words, made, term, kinded);
+    }
+    if matches!(*op, Prefix::Element) {
+        return from_table(words, made, term, kinded);
     }
     if !is_taken(*op) {
         return Err(Fault {
@@ -417,7 +422,7 @@ fn all_different<'t, 'a, W: Words>(
             part: term,
         });
     }
-    let Some(both) = kind_of_some(words, list) else {
+    let Some(both) = kind_of_term(words, list) else {
         return Err(Fault {
             why: Why::NoSuchCell,
             part: list,
@@ -532,5 +537,126 @@ fn unequal<'t, 'a, W: Words>(
     match combined(words, made, Infix::Unequal, x, y) {
         Ok(place) => Ok(place),
         Err(why) => Err(Fault { why, part: term }),
+    }
+}
+
+/// The same of what a table has behind the first label that is what is looked up.
+#[cycle(translating)]
+fn from_table<'t, 'a, W: Words>(
+    words: &W,
+    made: &mut Vec<Made>,
+    term: &'t Term<'a>,
+    kinded: Kinded,
+) -> Result<usize, Fault<'t, 'a>>
+    requires sound { IsSound (W.lexicon words.now) made.old.items }
+    ensures grown { OnOk result (Grown (W.lexicon words.now) made.old.items made.new.items) }
+    ensures shows { IfOk result
+        (Shows (W.lexicon words.now) made.new.items kinded (term_of term.now)) }
+{
+    let wrong = Fault {
+        why: Why::WrongForm,
+        part: term,
+    };
+    let Term::One(op, under) = term else {
+        return Err(wrong);
+    };
+    let Term::Two(semicolon, item, rows) = &**under else {
+        return Err(wrong);
+    };
+    if !is_lookup(*op, *semicolon) {
+        return Err(wrong);
+    }
+    let Some(keyed) = kind_of_term(words, item) else {
+        return Err(Fault {
+            why: Why::NoSuchCell,
+            part: item,
+        });
+    };
+    let place = translated(words, made, item, keyed)?;
+    let lookup = Lookup {
+        place,
+        keyed,
+        kinded,
+    };
+    if !has_all_keys(words, made, lookup, rows) {
+        return Err(Fault {
+            why: Why::MayBeMissing,
+            part: item,
+        });
+    }
+    in_rows(words, made, rows, lookup)
+}
+
+/// The cell of what is found in rows of which one is labelled by what is looked up: of the last it
+/// is not tested.
+#[cycle(translating)]
+fn in_rows<'t, 'a, W: Words>(
+    words: &W,
+    made: &mut Vec<Made>,
+    rows: &'t Term<'a>,
+    lookup: Lookup,
+) -> Result<usize, Fault<'t, 'a>>
+    requires sound { IsSound (W.lexicon words.now) made.old.items }
+    requires has { Has (W.lexicon words.now) made.old.items lookup.place lookup.keyed }
+    ensures grown { OnOk result (Grown (W.lexicon words.now) made.old.items made.new.items) }
+    ensures finds { IfOk result
+        (Finds (W.lexicon words.now) made.new.items lookup (term_of rows.now)) }
+{
+    let Term::Two(op, before, behind) = rows else {
+        return Err(Fault {
+            why: Why::WrongForm,
+            part: rows,
+        });
+    };
+    if is_list(rows) {
+        let z = in_rows(words, made, behind, lookup)?;
+        return before_others(words, made, before, lookup, z);
+    }
+    if !is_row(*op) || !is_label(words, lookup.keyed, before) {
+        return Err(Fault {
+            why: Why::NotInDomain,
+            part: before,
+        });
+    }
+    translated(words, made, behind, lookup.kinded)
+}
+
+/// The cell of what is found in rows, or of what another cell shows where nothing is.
+#[cycle(translating)]
+fn before_others<'t, 'a, W: Words>(
+    words: &W,
+    made: &mut Vec<Made>,
+    rows: &'t Term<'a>,
+    lookup: Lookup,
+    z: usize,
+) -> Result<usize, Fault<'t, 'a>>
+    requires sound { IsSound (W.lexicon words.now) made.old.items }
+    requires has { Has (W.lexicon words.now) made.old.items lookup.place lookup.keyed }
+    requires others { Has (W.lexicon words.now) made.old.items z lookup.kinded }
+    ensures grown { OnOk result (Grown (W.lexicon words.now) made.old.items made.new.items) }
+    ensures chooses { IfOk result
+        (Chooses (W.lexicon words.now) made.new.items lookup (term_of rows.now) z) }
+{
+    let Term::Two(op, before, behind) = rows else {
+        return Err(Fault {
+            why: Why::WrongForm,
+            part: rows,
+        });
+    };
+    if is_list(rows) {
+        let y = before_others(words, made, behind, lookup, z)?;
+        return before_others(words, made, before, lookup, y);
+    }
+    if !is_row(*op) {
+        return Err(Fault {
+            why: Why::WrongForm,
+            part: rows,
+        });
+    }
+    let t = is_labelled(words, made, lookup.place, lookup.keyed, before)?;
+    let y = translated(words, made, behind, lookup.kinded)?;
+    match choice(words, made, t, y, z) {
+        Ok(place) => Ok(place),
+        Err(why) => Err(Fault { why, part: rows }),
     }
 }

@@ -1,3 +1,4 @@
 pub mod AskLemmas
+pub mod DefineLemmas
 pub mod PostLemmas
 pub mod Starting

@@ -16,8 +16,9 @@ use Rattle.prop_workbench.specs.declared.session.Session.{Session}
 use Rattle.prop_engine.specs.Answers.{Answer}
 use Rattle.prop_workbench.specs.Questions.{Picks}
 use Rattle.prop_seeking.specs.Seeking.{Sought}
-use Rattle.prop_requiring.specs.Asking.{is_requirement}
-use Rattle.prop_requiring.specs.Requiring.{Requires, requiring}
+use Rattle.prop_blaming.specs.Blaming.{blaming}
+use Rattle.prop_requiring.specs.Asking.{is_definition, is_requirement}
+use Rattle.prop_requiring.specs.Requiring.{Defines, Requires, requiring}
 use Rattle.prop_demands.specs.inner.Laws.{IsGround, IsSolid}
 
 pub sound_ground : {R O : Type 0} {X : Type 0} {F : X → Type 0} {g : _} (value : R → Param → List Info → Info)
@@ -51,6 +52,20 @@ pub own_line : {O : Type 0} (picks : Picks O) (library : List Stored) (old : Sou
     → Requires library old (codes "require" ++ behind) answer new → requiring picks library old line answer new
 own_line picks library old line behind answer new is split requires =
     rw is (subst (λ (l : List ℕ). Requires library old l answer new) (sym split) requires)
+
+-- and one that defines a cell, what is defined
+pub own_definition : {O : Type 0} (picks : Picks O) (library : List Stored) (old : Sought O) (line behind : List ℕ)
+    (answer : Answer) (new : Sought O) → is_requirement line ≡ false → is_definition line ≡ true
+    → line ≡ codes "let" ++ behind → Defines picks library old (codes "let" ++ behind) answer new
+    → requiring picks library old line answer new
+own_definition picks library old line behind answer new other is split defines =
+    rw (other, is) (subst (λ (l : List ℕ). Defines picks library old l answer new) (sym split) defines)
+
+-- any other does what the blamer does
+pub other_line : {O : Type 0} (picks : Picks O) (library : List Stored) (old : Sought O) (line : List ℕ)
+    (answer : Answer) (new : Sought O) → is_requirement line ≡ false → is_definition line ≡ false
+    → blaming picks library old line answer new → requiring picks library old line answer new
+other_line picks library old line answer new first second blames = rw (first, second) blames
 
 -- the numbers below one more
 pub range_push : (n : ℕ) (old new : List ℕ) → old ≡ range_with_len 0 n → new ≡ old ++ n ∷ []

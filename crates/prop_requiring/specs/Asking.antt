@@ -1,4 +1,4 @@
--- Which lines require something, and the parts of which they are.
+-- Which lines require something or define a cell, and the parts of which they are.
 use Rattle.std.specs.Prelude.{◌≡◌, ◌≤◌, ◌<◌, ◌⊎◌, ℕ, List, ◌∷◌, ◌++◌, Bool, ◌||◌, ◌==◌, not}
 use Rattle.std.specs.Prelude.{true, false, codes, Option, Some, None, IfSome, length}
 use Rattle.std.specs.List.{list_all}
@@ -47,3 +47,26 @@ abbrev pub IsMisread : List ℕ → Refusal → Type 0
 IsMisread line e = ((e ≡ LineTooLong) × (4_096 < length line))
     ⊎ ((e ≡ NotAName) × (length line ≤ 4_096) × (text word : List ℕ) × EndsUnder line text word
     × (is_name word ≡ false))
+
+-- ---- definitions
+
+-- the line defines a cell
+abbrev pub is_definition : List ℕ → Bool
+is_definition line = begins (codes "let") line
+
+-- none of the bytes is an equals sign
+abbrev pub HasNoEquals : List ℕ → Type 0
+HasNoEquals bytes = list_all (λ b. not (b == 61)) bytes ≡ true
+
+-- the line is not too long, and is `let`, this before its first equals sign, this text behind it,
+-- and maybe spaces at the end
+pub record IsDefined (line before text : List ℕ) : Type 0 where
+  pub few : length line ≤ 4_096
+  pub end : List ℕ
+  pub spaces : AreSpaces end
+  pub parts : line ≡ codes "let" ++ (before ++ 61 ∷ (text ++ end))
+  pub first : HasNoEquals before
+
+-- the line that declares what stands before the equals sign, as a cell of this kind
+abbrev pub cell_line : List ℕ → List ℕ → List ℕ
+cell_line before kind = codes "cell" ++ (before ++ 32 ∷ kind)

@@ -20,6 +20,22 @@ const ENDS: Changes = Changes {
     hole: false,
 };
 
+/// The change of a number's lower end.
+const LOW: Changes = Changes {
+    low: true,
+    high: false,
+    point: false,
+    hole: false,
+};
+
+/// The change of a number's upper end.
+const HIGH: Changes = Changes {
+    low: false,
+    high: true,
+    point: false,
+    hole: false,
+};
+
 /// The change to one value alone.
 const POINT: Changes = Changes {
     low: false,
@@ -62,6 +78,8 @@ impl Guarded for Row {
             (Row::Element | Row::Index | Row::Entry, _) => Changes::ALL,
             (Row::Count, _) => POINT,
             (Row::CountBack, _) if 0 < place => POINT,
+            (Row::GreatestBack, _) if 0 < place => HIGH,
+            (Row::LeastBack, _) if 0 < place => LOW,
             _ => ENDS,
         }
     }

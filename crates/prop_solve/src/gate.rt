@@ -115,6 +115,19 @@ impl Gate {
         elements.count_ones() == 1 && elements & self.speaks != 0
     }
 
+    /// The elements with which something is said, as bits.
+    pub(crate) fn speaks(&self) -> u64 {
+        self.speaks
+    }
+
+    /// The gate that these elements alone open.
+    pub(crate) fn only(&self, elements: u64) -> Gate {
+        Gate {
+            place: self.place,
+            speaks: elements,
+        }
+    }
+
     /// Whether nothing is said by any element.
     pub(crate) fn is_mute(&self) -> bool {
         self.speaks == 0

@@ -64,12 +64,22 @@ fn is_deaf<R: Guarded>(rule: &R, trail: &Trail, x: &Instance, place: usize) -> b
         && acts_by_points(rule, place, count)
 }
 
-/// The changes of a cell that an instance heeds.
+/// The changes of the input at a place that a rule heeds, where the input that it waits for has
+/// this element alone left.
+fn heeds<R: Guarded>(rule: &R, place: usize, count: usize, element: Option<u64>) -> Changes {
+    match element {
+        Some(element) => rule.heeds_under(place, count, element),
+        None => rule.heeds(place, count),
+    }
+}
+
+/// The changes of a cell that an instance heeds, where its gate has this element alone left.
 pub(crate) fn heeded<R: Guarded + Drop>(
     network: &Network<R>,
     trail: &Trail,
     x: &Instance,
     cell: usize,
+    element: Option<u64>,
 ) -> Changes {
     if x.procedure() >= network.library().len() {
         return NONE;
@@ -79,7 +89,7 @@ pub(crate) fn heeded<R: Guarded + Drop>(
     let mut heeded = NONE;
     for place in 0..count {
         if x.inputs()[place] == cell && !is_deaf(rule, trail, x, place) {
-            heeded = all_of(heeded, rule.heeds(place, count));
+            heeded = all_of(heeded, heeds(rule, place, count, element));
         }
     }
     heeded

@@ -121,13 +121,12 @@ fn gathered(alloc: Global, present: &Present, inputs: &[usize]) -> Result<Vec<In
     Ok(args)
 }
 
-/// Whether it is seen at a glance that a call answers nothing.
-fn is_silent<R: Guarded + Drop>(network: &Network<R>, x: &Instance, args: &[Info]) -> bool {
+/// The rule of an instance.
+fn rule_of<'a, R: Guarded + Drop>(network: &'a Network<R>, x: &Instance) -> Option<&'a R> {
     if x.procedure() >= network.library().len() {
-        return true;
+        return None;
     }
-    let rule = network.library().get(x.procedure()).rule();
-    rule.says_nothing(x.param(), args)
+    Some(network.library().get(x.procedure()).rule())
 }
 
 /// Whether the output of an instance is its input at the rule's own place.
@@ -136,15 +135,6 @@ fn narrows_itself<R: Guarded + Drop>(rule: &R, x: &Instance) -> bool {
         Some(own) => x.inputs().get(own) == Some(&x.output()),
         None => false,
     }
-}
-
-/// Whether it is seen at a glance that a call answers what is believed.
-fn is_repeating<R: Guarded + Drop>(network: &Network<R>, x: &Instance, args: &[Info]) -> bool {
-    if x.procedure() >= network.library().len() {
-        return true;
-    }
-    let rule = network.library().get(x.procedure()).rule();
-    narrows_itself(rule, x) && rule.repeats(x.param(), args)
 }
 
 /// Whether a call can tell what was said from what was believed before. A number that is ruled out
@@ -472,12 +462,16 @@ impl Spread {
         ensures same { self.new ≡ self.old }
     {
         let x = network.data().instance(instance);
-        if is_silent(network, x, args) {
+        let Some(rule) = rule_of(network, x) else {
+            return Ok(true);
+        };
+        if rule.says_nothing(x.param(), args) {
             return Ok(true);
         }
         let by = Source::Call(instance);
-        if is_repeating(network, x, args) {
-            return self.rule_out_by(network, x, args, by);
+        let is_own = narrows_itself(rule, x);
+        if is_own && rule.repeats(x.param(), args) {
+            return self.rule_out_by(rule, x, args, by);
         }
         let Some(said) = answer(network, instance, args) else {
             return Ok(true);
@@ -485,27 +479,24 @@ impl Spread {
         if !self.present.info(x.output()).implies(said) && !self.say(x.output(), said, by)? {
             return Ok(false);
         }
-        self.rule_out_by(network, x, args, by)
+        // (where another cell is the input at the rule's own place, no step could tell why)
+        if is_own {
+            return self.rule_out_by(rule, x, args, by);
+        }
+        Ok(true)
     }
 
-    /// Rules out of an instance's output what its arguments do, number by number. Where another
-    /// cell is the input at the rule's own place, no step could tell why.
+    /// Rules out of an instance's output, which is the input at the rule's own place, what its
+    /// arguments do, number by number.
     fn rule_out_by<R: Guarded + Drop>(
         &mut self,
-        network: &Network<R>,
+        rule: &R,
         x: &Instance,
         args: &[Info],
         by: Source,
     ) -> Result<bool, AllocError>
         ensures same { self.new ≡ self.old }
     {
-        if x.procedure() >= network.library().len() {
-            return Ok(true);
-        }
-        let rule = network.library().get(x.procedure()).rule();
-        if !narrows_itself(rule, x) {
-            return Ok(true);
-        }
         for place in 0..args.len() {
             if let Some(number) = rule.rules_out(x.param(), args, place) {
                 if !self.rule_out(x.output(), number, by)? {

@@ -3,7 +3,7 @@
 use crate::gate::{Gate, gate_of};
 use crate::heeding::{heeded, is_decided_at_root, mirrored};
 use crate::present::{Present, is_decided};
-use prop_cells::Network;
+use prop_cells::{Instance, Network};
 use prop_facts::Changes;
 use prop_guards::Guarded;
 use prop_trail::{Trail, Waiting};
@@ -32,6 +32,84 @@ pub(crate) struct Wiring {
     readers: Vec<Readers>,
 }
 
+/// An instance that reads a cell, its gate, and the place that is said by others.
+#[derive(Clone, Copy)]
+struct Reading<'a> {
+    instance: usize,
+    x: &'a Instance,
+    cell: usize,
+    gate: Option<Gate>,
+    mirrored: Option<usize>,
+}
+
+impl Reading<'_> {
+    /// It heeds these changes where this gate is open.
+    fn by(&self, heeded: Changes, gate: Option<Gate>) -> Reader {
+        Reader {
+            instance: self.instance,
+            heeded,
+            gate,
+            mirrored: self.mirrored,
+        }
+    }
+}
+
+/// The first of these elements, as bits.
+fn first_of(elements: u64) -> u64 {
+    elements & elements.wrapping_neg()
+}
+
+/// Those of these elements with which an instance heeds just these changes of the cell.
+fn alike<R: Guarded + Drop>(
+    network: &Network<R>,
+    trail: &Trail,
+    reading: &Reading,
+    elements: u64,
+    changes: Changes,
+) -> u64 {
+    let mut alike = 0;
+    let mut left = elements;
+    for _ in 0..elements.count_ones() {
+        let element = first_of(left);
+        left &= !element;
+        if heeded(network, trail, reading.x, reading.cell, Some(element)) == changes {
+            alike |= element;
+        }
+    }
+    alike
+}
+
+/// Puts an instance among the readers of a cell: once for all elements that open its gate, where
+/// the same changes count with each, and else several times.
+fn read<R: Guarded + Drop>(
+    network: &Network<R>,
+    trail: &Trail,
+    reading: &Reading,
+    readers: &mut Readers,
+) -> Result<(), AllocError> {
+    let Some(gate) = reading.gate else {
+        let changes = heeded(network, trail, reading.x, reading.cell, None);
+        return readers.push(reading.by(changes, None));
+    };
+    let stands_open = gate.stands_open(trail);
+    let mut left = gate.speaks();
+    for _ in 0..left.count_ones() {
+        if left == 0 {
+            return Ok(());
+        }
+        let element = first_of(left);
+        let changes = heeded(network, trail, reading.x, reading.cell, Some(element));
+        let elements = element | alike(network, trail, reading, left, changes);
+        left &= !elements;
+        let gate = match stands_open {
+            true => None,
+            false => Some(gate.only(elements)),
+        };
+        readers.push(reading.by(changes, gate))?;
+    }
+    Ok(())
+}
+
 /// Puts an instance among the readers of each of its inputs that it heeds. One that never says what
 /// others don't is left out.
 fn connect<R: Guarded + Drop>(
@@ -53,19 +131,17 @@ fn connect<R: Guarded + Drop>(
     if gate.is_some_and(|gate| gate.is_mute()) {
         return Ok(());
     }
-    let gate = match gate {
-        Some(gate) if gate.stands_open(trail) => None,
-        gate => gate,
-    };
     for place in 0..x.inputs().len() {
         let cell = x.inputs()[place];
         if cell < readers.len() && !x.inputs()[..place].contains(&cell) {
-            readers[cell].push(Reader {
+            let reading = Reading {
                 instance,
-                heeded: heeded(network, trail, x, cell),
+                x,
+                cell,
                 gate,
                 mirrored,
-            })?;
+            };
+            read(network, trail, &reading, &mut readers[cell])?;
         }
     }
     Ok(())

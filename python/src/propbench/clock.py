@@ -2,7 +2,8 @@
 
 import sys
 import time
-from collections.abc import Callable, Iterator
+from collections.abc import Callable, Iterator, Sequence
+from typing import TypeVar
 
 from propbench.given import seconds_given
 
@@ -16,6 +17,10 @@ _FIRST, _AGAIN = 1.0, 0.2
 _GRACE, _LAST = 0.4, 0.8
 # The seconds of the first turn, where ways of asking take turns, and how many times as many follow.
 _FIRST_TURN, _MORE = 0.5, 4
+# The same of the slices of several questions.
+_FIRST_SLICE, _MORE_OF_SLICE = 2.0, 2
+
+Asked = TypeVar("Asked")
 
 
 class Clock:
@@ -78,6 +83,25 @@ class Clock:
                 return
             seconds *= _MORE
 
+    def slices(
+        self, waiting: Callable[[], Sequence[Asked]]
+    ) -> Iterator[tuple[Asked, float | None]]:
+        """What waits, round by round, with the seconds that each has: more and more, as far as
+        there is time, and all that is left where nothing else waits."""
+        seconds = _FIRST_SLICE
+        while there := waiting():
+            for each in there:
+                left = self.seconds_left()
+                if left == 0:
+                    return
+                is_all = len(there) == 1 or left is not None and left < seconds
+                yield each, left if is_all else seconds
+            seconds *= _MORE_OF_SLICE
+
+    def is_telling(self) -> bool:
+        """Whether what is told now is passed on: it may take long to make it up."""
+        return self._is_asked_for or time.monotonic() >= self._next
+
     def tell(self, text: str) -> None:
         """Tells of how far a question is, now and then."""
         self._text = text
@@ -85,8 +109,8 @@ class Clock:
 
     def tick(self) -> None:
         """Tells now and then that it goes on."""
-        now = time.monotonic()
-        if self._is_asked_for or now >= self._next:
+        if self.is_telling():
+            now = time.monotonic()
             self._next = now + _AGAIN
             self._told = True
             self._progress(f"{self._text} ({now - self._began:.0f} s)")

@@ -55,8 +55,8 @@ class Values(Mapping[str, Held]):
     @cached_property
     def texts(self) -> dict[str, str]:
         """The values as texts, by the names of cells."""
-        told = (line.split(" = ") for line in self._lines)
-        return {parts[0]: parts[1] for parts in told if len(parts) == 2}
+        told = (line.partition(" = ") for line in self._lines)
+        return {cell: text for cell, mark, text in told if mark}
 
     def __getitem__(self, cell: str) -> Held:
         return value_of(self.texts[cell], self._kinds[cell])

@@ -5,16 +5,16 @@ use Rattle.prop_lattice.specs.declared.info.Info.{Info}
 use Rattle.prop_lattice.specs.declared.span.Span.{Span}
 use Rattle.prop_procedures.specs.declared.shape.Kinded.{Kinded}
 use Rattle.prop_terms.specs.Terms.{Term}
-use Rattle.prop_terms.specs.Writing.{IsWritten}
-use Rattle.prop_terms.specs.declared.forming.Sort.TheVariants.{Truth}
 use Rattle.prop_vocabulary.specs.Cells.{CellNames}
 use Rattle.prop_vocabulary.specs.Vocabulary.{Vocabulary}
 use Rattle.prop_cells.specs.Data.{Data}
 use Rattle.prop_workbench.specs.declared.posting.Posting.{Posting}
 use Rattle.prop_workbench.specs.declared.posting.Stated.{Stated}
+use Rattle.prop_meaning.specs.Foreseeing.{IsForeseen}
 use Rattle.prop_meaning.specs.Palette.{IsFlatOf}
 use Rattle.prop_meaning.specs.Posting.{SaysSame}
 use Rattle.prop_meaning.specs.Words.{Lexicon}
+use Rattle.prop_meaning.specs.declared.known.Known.{Known}
 use Rattle.prop_meaning.specs.declared.posting.Posted.{Posted}
 use Rattle.prop_demands.specs.inner.Fitting.{AllFits}
 use Rattle.prop_demands.specs.inner.Glossaries.{IsWhole, lexicon_in, seen}
@@ -39,8 +39,12 @@ pub record IsUnderstood (lexicon : Lexicon) (words : Vocabulary) (kinds : List K
   pub fits : AllFits words kinds posted
   pub posting : IsPostingOf posted p
 
--- the text writes some term, which this posting says, by what is there before anything is believed
-abbrev pub IsUnderstoodIn : CellNames → Vocabulary → Data → List ℕ → Posting → Type 0
-IsUnderstoodIn names words cells text p = (t : Term) × IsWritten Truth text t × (whole : Span)
-    × (domains : ℕ) × IsWhole whole
+-- this posting says the term, by what is there before anything is believed
+abbrev pub IsUnderstoodIn : CellNames → Vocabulary → Data → Term → Posting → Type 0
+IsUnderstoodIn names words cells t p = (whole : Span) × (domains : ℕ) × IsWhole whole
     × IsUnderstood (lexicon_in (seen names words cells whole domains)) words cells.kinds t p
+
+-- this is known of the term's value, by what is there before anything is believed
+abbrev pub IsForeseenIn : CellNames → Vocabulary → Data → Term → Known → Type 0
+IsForeseenIn names words cells t known = (whole : Span) × (domains : ℕ) × IsWhole whole
+    × IsForeseen (lexicon_in (seen names words cells whole domains)) t known

@@ -265,7 +265,7 @@ room points n = elim (cases_lt points n) [
   | inr g ↦ elim (cases_eq points n) [ inl e ↦ Tight e | inr d ↦ Loose (omega (arith, g, d)) ]
 ]
 
-told_monotone : (n : ℕ) (h h' y y' : Info) → Below h h' → Below y y'
+pub told_monotone : (n : ℕ) (h h' y y' : Info) → Below h h' → Below y y'
     → Below (told n h y) (told n h' y')
 told_monotone n h h' y y' p q = by (room (points_in h') n) (room (points_in h) n)
   where

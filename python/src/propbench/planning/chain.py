@@ -11,6 +11,7 @@ from propbench.model.network import Network
 from propbench.model.nodes import Declared
 from propbench.planning.order import SetUp
 from propbench.planning.resources import KeptWithin
+from propbench.planning.rooms import ends_found
 from propbench.planning.schedule import Entry, Schedule
 from propbench.planning.tasks import (
     Away,
@@ -24,8 +25,8 @@ from propbench.planning.tasks import (
 )
 from propbench.questions.bounding import Optimum
 from propbench.questions.clock import Clock
-from propbench.questions.outcomes import NothingFits
-from propbench.questions.seeking import blames
+from propbench.questions.leaving import why_not_beyond
+from propbench.questions.model import GREATEST, LEAST
 from propbench.questions.shown import NOT_REFUTED, Shown, listed
 from propbench.showing import printable
 from propbench.tables import table
@@ -171,50 +172,14 @@ def chain_of(project: "Project", schedule: Schedule, clock: Clock) -> Chain:
 
 
 def reasons_of(project: "Project", value: int, clock: Clock) -> Reasons:
-    """Premises because of which nothing ends before a day, by one question for a conflict; or each
-    is tried to be left out in turn, as far as there is time. Raises ValueError where something
-    does."""
+    """Premises because of which nothing ends before a day: each is left out in turn, as far as
+    there is time. Raises ValueError where something does."""
     if value == 0:
         return Reasons(value, (), True)
-    w, name = project.workbench, project.unused("all ends sooner")
-    with w.what_if(tell=[(name, project.end, 0, value - 1)]):
-        if blames(w.model):
-            found = w.conflicts(most=1, seconds=clock.seconds_left(), progress=clock.progress)
-            if found:
-                names = tuple(it for it in found[0].names if it != name)
-                return Reasons(value, names, found[0].least)
-        kept, is_least = _clash(project, clock, w.believed), True
-        if kept is None:
-            raise ValueError(f"there is a plan that ends before day {value}: ask why of that")
-        _keep(project, kept)
-        for premise in kept:
-            if premise not in w.believed or premise == name:
-                continue
-            w.kick(premise)
-            fewer = _clash(project, clock, ())
-            if fewer:
-                _keep(project, fewer)
-            else:
-                w.bring(premise)
-                is_least = is_least and fewer is None
-        return Reasons(value, tuple(it for it in w.believed if it != name), is_least)
-
-
-def _clash(project: "Project", clock: Clock, unknown: tuple[str, ...]) -> tuple[str, ...] | None:
-    """Premises that can't all hold, None where all fit, and `unknown` where there was no time."""
-    try:
-        project.workbench.solve(seconds=clock.seconds_left(), progress=clock.progress)
-    except NothingFits as none:
-        return unknown if none.premises is None else none.premises
-    return None
-
-
-def _keep(project: "Project", premises: Sequence[str]) -> None:
-    """Believes these premises alone."""
-    w = project.workbench
-    for premise in w.believed:
-        if premise not in premises:
-            w.kick(premise)
+    because = why_not_beyond(project.workbench.model, project.end.name, LEAST, value, clock)
+    if because is None:
+        raise ValueError(f"there is a plan that ends before day {value}: ask why of that")
+    return Reasons(value, because.premises, because.is_least)
 
 
 def _rooms(
@@ -222,21 +187,13 @@ def _rooms(
 ) -> dict[str, TaskRoom]:
     """The room of each of these tasks in plans that end by a day, as far as there is time to find
     it."""
-    w, name = project.workbench, project.unused("all ends as soon")
-    rooms: dict[str, TaskRoom] = {}
-
-    def best(ask: Callable[..., Optimum], cell: NumberCell) -> int | None:
-        found = ask(cell, seconds=clock.seconds_left(), progress=clock.progress)
-        return found.value if found.proved else None
-
-    with w.what_if(tell=[(name, project.end, 0, value)]):
-        for task in (project.tasks[it] for it in tasks):
-            ends = best(w.least, task.start), best(w.greatest, task.end)
-            if ends[0] is not None and ends[1] is not None:
-                latest = best(w.greatest, task.start)
-                if latest is not None:
-                    rooms[task.name] = TaskRoom(ends[0], ends[1], latest)
-    return rooms
+    name = project.unused("all ends as soon")
+    wanted = dict[str, list[tuple[str, str]]]()
+    for task in (project.tasks[it] for it in tasks):
+        ends = (task.start.name, LEAST), (task.end.name, GREATEST), (task.start.name, GREATEST)
+        wanted[task.name] = list(ends)
+    with project.workbench.what_if(tell=[(name, project.end, 0, value)]):
+        return {it: TaskRoom(*ends) for it, ends in ends_found(project, wanted, clock).items()}
 
 
 def _is_own(network: Network, project: "Project", premise: str) -> bool:
@@ -256,7 +213,7 @@ class Walk:
         self._stated = [
             each for name in premises for each in network.premises.statements.get(name, ())
         ]
-        self._schedule, self._project = schedule, project
+        self._schedule, self._tasks = schedule, project.tasks
         self._entries = {entry.task: entry for entry in schedule.entries}
         self._busy = {it.person for it in self._stated if isinstance(it, KeptApart)}
         self._full = {it.resource for it in self._stated if isinstance(it, KeptWithin)}
@@ -265,7 +222,7 @@ class Walk:
         # (a task of which no premise here says how long it takes keeps nobody busy)
         told = _lengths_in(it for stated in network.premises.statements.values() for it in stated)
         named = self._named()
-        lengths = {name: task.days.declared for name, task in project.tasks.items()}
+        lengths = {name: task.days.declared for name, task in self._tasks.items()}
         self._lasting = [
             entry
             for entry in schedule.entries
@@ -306,7 +263,7 @@ class Walk:
 
     def _named(self) -> dict[str, None]:
         """The tasks that the premises speak of."""
-        cells = {task.days.declared: name for name, task in self._project.tasks.items()}
+        cells = {task.days.declared: name for name, task in self._tasks.items()}
         found: dict[str, None] = {}
         for each in self._stated:
             if isinstance(each, TaskTold) and each.cell in cells:
@@ -319,7 +276,7 @@ class Walk:
 
     def _is_told_alone(self, task: str) -> bool:
         """Whether a premise says nothing but how long a task takes: so that is a reason."""
-        days = self._project.tasks[task].days.declared
+        days = self._tasks[task].days.declared
         told = [it.premise for it in self._stated if isinstance(it, TaskTold) and it.cell is days]
         count = [it.premise for it in self._stated]
         return any(count.count(premise) == 1 for premise in told)
@@ -358,7 +315,7 @@ class Walk:
 
     def _wait_for_setups(self, entry: Entry, into: _Waits) -> None:
         """Takes in the tasks behind which somebody is set up for this one."""
-        tasks = self._project.tasks
+        tasks = self._tasks
         for person, kinds, days in (it for it in self._setups if it[0] in entry.needs):
             for other in (it for it in self._lasting if person in it.needs):
                 is_so = (tasks[other.task].kind, tasks[entry.task].kind) == kinds

@@ -2,7 +2,7 @@
 the room that it has over all plans."""
 
 import os
-from collections.abc import Collection, Mapping
+from collections.abc import Mapping
 from dataclasses import dataclass
 from html import escape
 from typing import TYPE_CHECKING
@@ -10,18 +10,15 @@ from typing import TYPE_CHECKING
 from propbench.outputs import write_as
 from propbench.planning.calendar import MONTHS
 from propbench.planning.exports import ENDINGS
+from propbench.planning.rooms import ends_found
 from propbench.planning.schedule import Entry, Schedule
 from propbench.planning.tasks import Away
-from propbench.questions.asking import tried, tried_by
-from propbench.questions.bounding import GREATEST, LEAST, Bounding, Optimum
+from propbench.questions.bounding import GREATEST, LEAST, Optimum
 from propbench.questions.clock import Clock, Progress
-from propbench.questions.ends import Ending
 from propbench.questions.model import Plan
 from propbench.questions.planned import Planned
 from propbench.questions.shown import listed
-from propbench.questions.outcomes import Fits, NothingFits
-from propbench.questions.seeking import Seeker, seeks
-from propbench.questions.trial import Trial
+from propbench.questions.outcomes import NothingFits
 from propbench.showing import printable
 
 if TYPE_CHECKING:
@@ -62,9 +59,21 @@ def chart_of(
     clock = Clock(seconds, progress)
     shown, is_best = (plan, True) if plan is not None else _soonest(project, has_rooms, clock)
     schedule = project.schedule(shown)
-    rooms = rooms_of(project, clock, project.tasks) if has_rooms else {}
+    rooms = rooms_of(project, clock) if has_rooms else {}
     is_all = is_best and (not has_rooms or len(rooms) == len(schedule.entries))
     return Chart(drawn(schedule, rooms, project.days), is_all)
+
+
+def rooms_of(project: "Project", clock: Clock) -> dict[str, tuple[int, int]]:
+    """For each task the first day on which it starts in any plan, and the last on which it ends, as
+    far as there is time to find both."""
+    wanted = {
+        name: ((task.start.name, LEAST), (task.end.name, GREATEST))
+        for name, task in project.tasks.items()
+    }
+    return {
+        name: (first, last) for name, (first, last) in ends_found(project, wanted, clock).items()
+    }
 
 
 def _soonest(project: "Project", has_rooms: bool, clock: Clock) -> tuple[Optimum, bool]:
@@ -97,62 +106,6 @@ def drawn(schedule: Schedule, rooms: Mapping[str, tuple[int, int]], days: int) -
             "</svg>",
         ]
     )
-
-
-def rooms_of(
-    project: "Project", clock: Clock, tasks: Collection[str]
-) -> dict[str, tuple[int, int]]:
-    """For each of these tasks the first day on which it starts in any plan, and the last on which
-    it ends, as far as there is time to find both."""
-    model = project.workbench.model
-    if seeks(model):
-        with Seeker(model, clock) as seeker:
-            return _rooms_by(seeker, project, tasks)
-    rooms: dict[str, tuple[int, int]] = {}
-    plans: list[Fits] = []
-
-    def best(trial: Trial, cell: str, sort: str) -> int | None:
-        """The least or greatest value, from the best of the plans that are known."""
-        bounding, sign = Bounding(trial, model.believed(), cell, sort), 1 if sort == LEAST else -1
-        known = sorted(plans, key=lambda fits: sign * int(fits.plan[cell]))
-        bounding.run(known[0] if known else None)
-        plans.extend([bounding.fits] if bounding.fits else [])
-        return bounding.value if bounding.proved else None
-
-    def run(trial: Trial) -> None:
-        for name in tasks:
-            task = project.tasks[name]
-            ends = best(trial, task.start.name, LEAST), best(trial, task.end.name, GREATEST)
-            if ends[0] is not None and ends[1] is not None:
-                rooms[name] = ends[0], ends[1]
-            clock.tell(f"the rooms of {len(rooms)} of {len(tasks)} tasks")
-
-    trial = Trial(model, model.believed(), clock)
-    return tried(trial, lambda: run(trial), lambda: rooms)
-
-
-def _rooms_by(
-    seeker: Seeker, project: "Project", tasks: Collection[str]
-) -> dict[str, tuple[int, int]]:
-    """The same by a program that searches for the ends itself."""
-    rooms: dict[str, tuple[int, int]] = {}
-
-    def end(cell: str, sort: str) -> int | None:
-        ending = Ending(seeker, cell, sort)
-        ending.run()
-        return ending.value
-
-    def run() -> None:
-        for name in tasks:
-            if seeker.clock.is_over():
-                break
-            task = project.tasks[name]
-            ends = end(task.start.name, LEAST), end(task.end.name, GREATEST)
-            if ends[0] is not None and ends[1] is not None:
-                rooms[name] = ends[0], ends[1]
-            seeker.clock.tell(f"the rooms of {len(rooms)} of {len(tasks)} tasks")
-
-    return tried_by(seeker.clock, run, lambda: rooms)
 
 
 def _days(schedule: Schedule, days: int, height: int) -> list[str]:

@@ -1,24 +1,27 @@
 """How much room a cell has over all plans, and which premises leave it no more."""
 
-from collections.abc import Sequence
+from collections.abc import Iterable, Sequence
 from contextlib import suppress
 from dataclasses import dataclass
 
 from propbench.clock import Clock, Progress
 from propbench.questions.asking import CellLike, tried, tried_by, whole_named
+from propbench.questions.blaming import BY_SEARCH
 from propbench.questions.bounding import GREATEST, LEAST, Bounding, Optimum, bounding_in
 from propbench.questions.certificate import Certificate, Evidence
 from propbench.questions.conflicts import Premises
 from propbench.questions.ends import Ending
 from propbench.questions.exploring import Exploring, Refuted
 from propbench.questions.hitting import bits_of
+from propbench.questions.leaving import Leaving, beyond_of
 from propbench.questions.model import Model, Point
-from propbench.questions.outcomes import NothingFits
+from propbench.questions.outcomes import Fits, NothingFits
 from propbench.questions.plans import PlanListing, listed_in_turns
 from propbench.questions.rooms import NumberRoom
-from propbench.questions.seeking import Seeker, Unlike, seeks
+from propbench.questions.seeking import Seeker, Unlike, blames, seeks
 from propbench.questions.shown import NOT_REFUTED, Shown, shortened
 from propbench.questions.trial import Trial
+from propbench.words import MOST_NUMBER
 
 
 @dataclass(frozen=True, repr=False)
@@ -195,11 +198,69 @@ def find_critical(
     if sort not in (LEAST, GREATEST):
         raise ValueError(f"the end is {LEAST!r} or {GREATEST!r}, and not {sort!r}")
     name, clock = whole_named(model, cell), Clock(seconds, progress)
+    if blames(model):
+        with suppress(Unlike), Seeker(model, clock) as seeker:
+            return _critical_by(seeker, name, sort)
     return _critical_by_cases(model, name, sort, clock)
 
 
 def _nothing_to_explain(sort: str, cell: str, optimum: Optimum) -> NothingFits:
     return NothingFits(f"there is no {sort} {cell} to be explained: {optimum.headline()}")
+
+
+def _critical_by(seeker: Seeker, cell: str, sort: str) -> Critical:
+    """The same by a program that searches for plans itself. Raises Unlike."""
+    ending, found = Ending(seeker, cell, sort), list[Leaving]()
+
+    def run() -> None:
+        ending.run()
+        if ending.value is not None and abs(ending.value) < MOST_NUMBER:
+            beyond = {seeker.lines[cell]: beyond_of(sort, ending.value)}
+            found.append(Leaving(seeker, beyond, ending.because))
+            found[0].run()
+
+    def result() -> Critical:
+        optimum, _, plans = ending.known()
+        if not found or optimum.value is None:
+            raise _nothing_to_explain(sort, cell, optimum)
+        made = _made(seeker.model, optimum, found[0].premises, found[0].is_known)
+        made._certificate = _shown_by(seeker, made, found[0], plans[0])
+        return made
+
+    return tried_by(seeker.clock, run, result)
+
+
+def _shown_by(seeker: Seeker, made: Critical, leaving: Leaving, best: Fits) -> Certificate | None:
+    """What shows that nothing beyond a best plan fits with these premises, and does without any one
+    of them."""
+    evidence, model = seeker.evidence(), seeker.model
+    evidence.add_plan(model.believed(), best)
+    for name, fits in leaving.plans.items():
+        evidence.add_plan([it for it in made if model.line_name(it) != name], fits)
+    told = [[cell, str(held)] for cell, held in leaving.told.items()]
+    evidence.trees.append(([leaving.names, told], BY_SEARCH))
+    optimum: dict[str, object] = {"given": leaving.names, "sort": made.sort}
+    optimum |= {"cell": seeker.lines[made.cell], "value": made.value, "bound": made.value}
+    least = [("conflicts", _least_claim(seeker.given(), leaving.names, told))]
+    return evidence.certificate([*(least if made.complete else []), ("optimum", optimum)])
+
+
+def _made(model: Model, optimum: Optimum, names: Iterable[str], is_least: bool) -> Critical:
+    """The premises of an optimum, as yet without a certificate."""
+    assert optimum.value is not None
+    made = Critical(names)
+    made.cell, made.sort, made.value = optimum.cell, optimum.sort, optimum.value
+    made.texts = {premise: model.text(premise) for premise in made}
+    made.complete = is_least
+    return made
+
+
+def _least_claim(
+    given: Sequence[str], names: Sequence[str], told: Sequence[Sequence[str]]
+) -> dict[str, object]:
+    """The claim that premises can't all hold within what is told, and can without any of them."""
+    sets = {"sets": [names], "outs": [], "full": False}
+    return {"given": given, "keep": [], "told": told, **sets}
 
 
 def _critical_by_cases(model: Model, name: str, sort: str, clock: Clock) -> Critical:
@@ -222,10 +283,8 @@ def _critical_by_cases(model: Model, name: str, sort: str, clock: Clock) -> Crit
         if not found or bounding.value is None:
             raise _nothing_to_explain(sort, name, bounding.result())
         explored, refuted = found[0]
-        made = Critical(explored.names(refuted.mask))
-        made.cell, made.sort, made.value = name, sort, bounding.value
-        made.texts = {premise: model.text(premise) for premise in made}
-        made.complete = refuted.least
+        names = explored.names(refuted.mask)
+        made = _made(model, bounding.result(), names, refuted.least)
         made._certificate = _certificate(bounding, explored, refuted)
         return made
 
@@ -242,14 +301,7 @@ def _certificate(bounding: Bounding, explored: Exploring, refuted: Refuted) -> C
         kept = next(kept for kept in explored.plans if kept.mask & mask == mask)
         evidence.add_plan(explored.names(kept.mask), kept.fits)
     names = evidence.lines_of(explored.names(refuted.mask))
-    claim: dict[str, object] = {
-        "given": evidence.lines_of(explored.premises),
-        "keep": [],
-        "told": told,
-        "sets": [names],
-        "outs": [],
-        "full": False,
-    }
+    claim = _least_claim(evidence.lines_of(explored.premises), names, told)
     least = ("conflicts", claim) if refuted.least else ("fails", {"given": names, "told": told})
     best = bounding.show(evidence)
     return evidence.certificate([least, *([best] if best else [])])

@@ -79,6 +79,11 @@ class Ending:
         """The end, once it is found."""
         return self._reply.value if isinstance(self._reply, Best) else None
 
+    @property
+    def because(self) -> tuple[str, ...]:
+        """The premises of lines by which it is the end, once it is found."""
+        return self._reply.because if isinstance(self._reply, Best) else ()
+
     def known(self) -> tuple[Optimum, Claims, list[Fits]]:
         """What is known by now, with what is claimed of it, and the plan that shows it. Raises
         Unlike."""

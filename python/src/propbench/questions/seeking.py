@@ -125,7 +125,8 @@ class Seeker(Closing):
 
         def hear(steps: int, reply: Reply) -> None:
             self.reply, self.steps = _joined(before, reply), steps or self.steps
-            self.clock.tell(_told(self.reply, line))
+            if self.clock.is_telling():
+                self.clock.tell(_told(self.reply, line))
             if self.heard is not None:
                 self.heard(self.reply)
 
@@ -155,9 +156,10 @@ class Seeker(Closing):
             return self.plan_of({**held, **moved}, believed)
         return self.plan_of(held, believed)
 
-    def fits(self, points: Points) -> Fits:
-        """The plan of the user's cells at points. Raises Unlike where it doesn't hold."""
-        return self.plan_of(self._held(points))
+    def fits(self, points: Points, premises: Sequence[str] | None = None) -> Fits:
+        """The plan of the user's cells at points, with these premises believed, or those of the
+        model. Raises Unlike where it doesn't hold."""
+        return self.plan_of(self._held(points), premises)
 
     def plan_of(self, values: Mapping[str, Held], premises: Sequence[str] | None = None) -> Fits:
         """The plan of these values of all of the user's cells, with these premises believed, or

@@ -1,11 +1,16 @@
-use Rattle.std.proofs.Common.{◌≡◌, ◌∙◌, true, false, cond, ap, refl, sym, subst}
+use Rattle.std.proofs.Common.{◌≡◌, ◌∙◌, ◌∷◌, [], true, false, cond, ap, refl, sym, subst}
 use Rattle.std.proofs.lemmas.Result.{IfOk-weaker}
 use Rattle.prop_terms.specs.Terms.{Number, One, Two, Braces, term_of}
-use Rattle.prop_terms.specs.declared.operators.Prefix.TheVariants.{If, Different}
+use Rattle.prop_terms.specs.declared.operators.Prefix.TheVariants.{If, Different, Element}
 use Rattle.prop_terms.specs.declared.operators.Infix.TheVariants.{And, Then, Else, In, UpTo, Power, Unequal}
-use Rattle.prop_meaning.specs.inner.Drafts.{Shows, number_kind, truth_kind}
+use Rattle.prop_terms.specs.declared.operators.Infix.TheVariants.{Colon, Comma, Semicolon}
+use Rattle.prop_terms.specs.Meaning.{label}
+use Rattle.prop_meaning.specs.inner.Drafts.{Makes, Shows, number_kind, truth_kind}
 use Rattle.prop_meaning.specs.inner.Formulas as formulas
-use Rattle.prop_meaning.specs.inner.Lists.{unequal_to, different_of}
+use Rattle.prop_meaning.specs.inner.Lists.{is_among, unequal_to, different_of}
+use Rattle.prop_meaning.specs.inner.Steps.{truth_point}
+use Rattle.prop_meaning.specs.inner.Tables.{Chooses, Finds, HasAllKeys}
+use Rattle.prop_meaning.specs.declared.tables.Lookup.{Lookup}
 use Rattle.prop_meaning.proofs.Different.{shows_both, shows_different, shows_itself, shows_unequal}
 use Rattle.prop_meaning.proofs.Different.{unequal_alone}
 use Rattle.prop_meaning.proofs.Growing.{both_ok, grown_trans, has_grows, on_ok, shows_grows}
@@ -13,6 +18,7 @@ use Rattle.prop_meaning.proofs.BraceLemmas.{shows_words}
 use Rattle.prop_meaning.proofs.Lists.{is_comma, shows_alone, shows_gathered}
 use Rattle.prop_meaning.proofs.PowerLemmas.{shows_power}
 use Rattle.prop_meaning.proofs.Showing.{shows_one, shows_two, shows_choice, shows_range}
+use Rattle.prop_meaning.proofs.TableLemmas.{chooses_more, chooses_row, finds_more, finds_row, shows_table}
 use Rattle.prop_meaning.proofs.translating.+translating.Goals as goal
 
 pub before_one-returns-in-Ok-clause-shows : goal.before_one-returns-in-Ok-clause-shows
@@ -395,3 +401,156 @@ differing-returns-in-Ok-clause-shows g t c =
     (unequal_to others last)) place) (sym several)
     (shows_both lexicon (different_of others) (unequal_to others last) c.in_ok-x.x c.in_ok-z.z place second third fourth
     c.in_ok-x.ensures.shows c.in_ok-z.ensures.grown apart c.in-Ok.ensures.grown c.in-Ok.ensures.makes))
+
+pub from_table-returns-clause-grown : goal.from_table-returns-clause-grown
+from_table-returns-clause-grown g t c = on_ok c.in_rows.result _ _ c.in_rows.ensures.grown (λ grown.
+    grown_trans (g.W.Words.lexicon c.args.words.now) c.args.made.now.items c.translated.new.made.items
+    c.in_rows.new.made.items c.in_ok-place.ensures.grown grown)
+
+pub from_table-returns-clause-shows : goal.from_table-returns-clause-shows
+from_table-returns-clause-shows g t c =
+    let lexicon = g.W.Words.lexicon c.args.words.now in
+    let outer = c.in-One in
+    let inner = c.in-Two in
+    let kinded = c.args.kinded in
+    let lookup : Lookup = record { place = c.in_ok-place.place; keyed = c.in-Some.keyed; kinded = kinded } in
+    let item = term_of inner.item.value in
+    let rows = term_of inner.rows.value in
+    let first = c.translated.new.made.items in
+    let second = c.in_rows.new.made.items in
+    let which = c.is_lookup.ensures c.if-not-is_lookup.false in
+    let body : term_of c.deref.result.now ≡ Two Semicolon item rows = ap term_of inner.is
+    ∙ ap (λ o. Two o item rows) which.1 in
+    let whole : term_of c.args.term.now ≡ One Element (Two Semicolon item rows) = ap term_of outer.is
+    ∙ (ap (λ o. One o (term_of outer.under.value)) which.0
+    ∙ (ap (λ u. One Element (term_of u)) (sym c.deref.ensures) ∙ ap (One Element) body)) in
+    let shown : Shows lexicon first lookup.keyed item lookup.place =
+    subst (λ u. Shows lexicon first lookup.keyed (term_of u) lookup.place) c.deref-3.ensures
+    c.in_ok-place.ensures.shows in
+    let keys : HasAllKeys lexicon first lookup rows =
+    subst (λ u. HasAllKeys lexicon first lookup (term_of u)) c.deref-5.ensures
+    (subst (λ m. HasAllKeys lexicon m lookup (term_of c.deref-5.result.now)) c.deref-4.ensures.value
+    (c.has_all_keys.ensures c.if-not-has_all_keys.false)) in
+    both_ok c.in_rows.result _ _ _ c.in_rows.ensures.grown c.in_rows.ensures.finds (λ place grown f.
+    subst (λ u. Shows lexicon second kinded u place) (sym whole)
+    (shows_table lexicon lookup item rows place first second shown keys grown
+    (subst (λ u. Finds lexicon second lookup (term_of u) place) c.deref-6.ensures f)))
+
+pub in_rows-returns-then-is_list-clause-grown : goal.in_rows-returns-then-is_list-clause-grown
+in_rows-returns-then-is_list-clause-grown g t c =
+    on_ok c.before_others.result _ _ c.before_others.ensures.grown (λ grown.
+    grown_trans (g.W.Words.lexicon c.args.words.now) c.args.made.now.items c.in_rows.new.made.items
+    c.before_others.new.made.items c.in_ok-z.ensures.grown grown)
+
+pub in_rows-returns-then-is_list-clause-finds : goal.in_rows-returns-then-is_list-clause-finds
+in_rows-returns-then-is_list-clause-finds g t c =
+    let lexicon = g.W.Words.lexicon c.args.words.now in
+    let outer = c.in-Two in
+    let lookup = c.args.lookup in
+    let before = term_of outer.before.value in
+    let behind = term_of outer.behind.value in
+    let first = c.in_rows.new.made.items in
+    let second = c.before_others.new.made.items in
+    let comma = is_comma outer.op before behind
+    (ap formulas.is_list (sym (ap term_of outer.is)) ∙ (sym c.is_list.ensures ∙ c.if-is_list.true)) in
+    let whole : term_of c.args.rows.now ≡ Two Comma before behind = ap term_of outer.is
+    ∙ ap (λ o. Two o before behind) comma in
+    let last : Finds lexicon first lookup behind c.in_ok-z.z =
+    subst (λ u. Finds lexicon first lookup (term_of u) c.in_ok-z.z) c.deref.ensures c.in_ok-z.ensures.finds in
+    both_ok c.before_others.result _ _ _ c.before_others.ensures.grown c.before_others.ensures.chooses
+    (λ place grown f. subst (λ u. Finds lexicon second lookup u place) (sym whole)
+    (finds_more lexicon lookup before behind c.in_ok-z.z place first second last grown
+    (subst (λ u. Chooses lexicon second lookup (term_of u) c.in_ok-z.z place) c.deref-then-is_list.ensures f)))
+
+pub in_rows-returns-clause-finds : goal.in_rows-returns-clause-finds
+in_rows-returns-clause-finds g t c =
+    let lexicon = g.W.Words.lexicon c.args.words.now in
+    let outer = c.in-Two in
+    let lookup = c.args.lookup in
+    let new = c.translated.new.made.items in
+    let before = term_of outer.before.value in
+    let behind = term_of outer.behind.value in
+    let which = c.is_row.ensures c.if-not-is_row.false in
+    let whole : term_of c.args.rows.now ≡ Two Colon before behind = ap term_of outer.is
+    ∙ ap (λ o. Two o before behind) which in
+    IfOk-weaker c.translated.result _ _ (λ place s. subst (λ u. Finds lexicon new lookup u place) (sym whole)
+    (finds_row lexicon lookup before behind place new
+    (subst (λ u. Shows lexicon new lookup.kinded (term_of u) place) c.deref-2.ensures s))) c.translated.ensures.shows
+
+pub before_others-returns-then-is_list-clause-grown : goal.before_others-returns-then-is_list-clause-grown
+before_others-returns-then-is_list-clause-grown g t c =
+    on_ok c.before_others-then-is_list.result _ _ c.before_others-then-is_list.ensures.grown (λ grown.
+    grown_trans (g.W.Words.lexicon c.args.words.now) c.args.made.now.items c.before_others.new.made.items
+    c.before_others-then-is_list.new.made.items c.in_ok-y.ensures.grown grown)
+
+pub before_others-returns-then-is_list-clause-chooses : goal.before_others-returns-then-is_list-clause-chooses
+before_others-returns-then-is_list-clause-chooses g t c =
+    let lexicon = g.W.Words.lexicon c.args.words.now in
+    let outer = c.in-Two in
+    let lookup = c.args.lookup in
+    let before = term_of outer.before.value in
+    let behind = term_of outer.behind.value in
+    let first = c.before_others.new.made.items in
+    let second = c.before_others-then-is_list.new.made.items in
+    let comma = is_comma outer.op before behind
+    (ap formulas.is_list (sym (ap term_of outer.is)) ∙ (sym c.is_list.ensures ∙ c.if-is_list.true)) in
+    let whole : term_of c.args.rows.now ≡ Two Comma before behind = ap term_of outer.is
+    ∙ ap (λ o. Two o before behind) comma in
+    let last : Chooses lexicon first lookup behind c.args.z c.in_ok-y.y =
+    subst (λ u. Chooses lexicon first lookup (term_of u) c.args.z c.in_ok-y.y) c.deref.ensures
+    c.in_ok-y.ensures.chooses in
+    both_ok c.before_others-then-is_list.result _ _ _ c.before_others-then-is_list.ensures.grown
+    c.before_others-then-is_list.ensures.chooses
+    (λ place grown f. subst (λ u. Chooses lexicon second lookup u c.args.z place) (sym whole)
+    (chooses_more lexicon lookup before behind c.args.z c.in_ok-y.y place first second last grown
+    (subst (λ u. Chooses lexicon second lookup (term_of u) c.in_ok-y.y place) c.deref-then-is_list.ensures f)))
+
+pub before_others-choice-requires-clause-truth : goal.before_others-choice-requires-clause-truth
+before_others-choice-requires-clause-truth g t c =
+    has_grows (g.W.Words.lexicon c.args.words.now) c.is_labelled.new.made.items c.translated.new.made.items
+    c.in_ok-t.t truth_kind c.in_ok-y-2.ensures.grown.grows c.in_ok-t.ensures.alone.has
+
+pub before_others-choice-requires-clause-suits : goal.before_others-choice-requires-clause-suits
+before_others-choice-requires-clause-suits g t c =
+    let lexicon = g.W.Words.lexicon c.args.words.now in
+    let first = c.is_labelled.new.made.items in
+    let kinded = c.args.lookup.kinded in (
+      kinded,
+      c.in_ok-y-2.ensures.shows.has,
+      has_grows lexicon first c.translated.new.made.items c.args.z kinded
+          c.in_ok-y-2.ensures.grown.grows
+          (has_grows lexicon c.args.made.now.items first c.args.z kinded c.in_ok-t.ensures.grown.grows c.requires.others),
+    )
+
+pub before_others-returns-in-Ok-clause-grown : goal.before_others-returns-in-Ok-clause-grown
+before_others-returns-in-Ok-clause-grown g t c =
+    let lexicon = g.W.Words.lexicon c.args.words.now in
+    let first = c.is_labelled.new.made.items in
+    let second = c.translated.new.made.items in
+    let third = c.choice.new.made.items in
+    grown_trans lexicon c.args.made.now.items first third c.in_ok-t.ensures.grown
+    (grown_trans lexicon first second third c.in_ok-y-2.ensures.grown c.in-Ok.ensures.grown)
+
+pub before_others-returns-in-Ok-clause-chooses : goal.before_others-returns-in-Ok-clause-chooses
+before_others-returns-in-Ok-clause-chooses g t c =
+    let lexicon = g.W.Words.lexicon c.args.words.now in
+    let outer = c.in-Two in
+    let lookup = c.args.lookup in
+    let before = term_of outer.before.value in
+    let behind = term_of outer.behind.value in
+    let first = c.is_labelled.new.made.items in
+    let second = c.translated.new.made.items in
+    let third = c.choice.new.made.items in
+    let place = c.in-Ok.place in
+    let which = c.is_row.ensures c.if-not-is_row.false in
+    let whole : term_of c.args.rows.now ≡ Two Colon before behind = ap term_of outer.is
+    ∙ ap (λ o. Two o before behind) which in
+    let it = subst (λ u. Makes lexicon first truth_kind
+    (λ a. truth_point (is_among lexicon lookup.keyed (a lookup.place) (label (term_of u) ∷ []))) c.in_ok-t.t)
+    c.deref-2.ensures c.in_ok-t.ensures.alone in
+    let shown = subst (λ u. Shows lexicon second lookup.kinded (term_of u) c.in_ok-y-2.y) c.deref-3.ensures
+    c.in_ok-y-2.ensures.shows in
+    subst (λ u. Chooses lexicon third lookup u c.args.z place) (sym whole)
+    (chooses_row lexicon lookup before behind c.in_ok-t.t c.in_ok-y-2.y c.args.z place first second third it
+    c.in_ok-y-2.ensures.grown shown c.in-Ok.ensures.grown
+    (c.in-Ok.ensures.makes lookup.kinded c.in_ok-y-2.ensures.shows.has))
