@@ -116,8 +116,8 @@ fn places(
     shape: Shape,
     held: &Cells,
     asked: &Asked<'_>,
-) -> SmallVec<(Shape, Kinded), 129>
-    requires few { length asked.now.ins.now ≤ 128 }
+) -> SmallVec<(Shape, Kinded), 385>
+    requires few { length asked.now.ins.now ≤ 384 }
     requires count { length asked.now.ins.now ≡ length shapes.now }
     requires cells { All (λ c. c < length held.now.kinds)
         (asked.now.ins.now ++ asked.now.out ∷ []) }

@@ -74,8 +74,8 @@ fn places(
     out: Shape,
     kinds: &[Kinded],
     instance: &Placed,
-) -> SmallVec<(Shape, Kinded), 129>
-    requires few { length ins.now ≤ 128 }
+) -> SmallVec<(Shape, Kinded), 385>
+    requires few { length ins.now ≤ 384 }
     requires count { length instance.now.inputs.items ≡ length ins.now }
     ensures { result.items ≡ zip (ins.now ++ out ∷ [])
         (map (kind_at kinds.now) (instance.now.inputs.items ++ instance.now.output ∷ [])) }
