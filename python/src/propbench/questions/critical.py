@@ -198,36 +198,65 @@ def find_critical(
     if sort not in (LEAST, GREATEST):
         raise ValueError(f"the end is {LEAST!r} or {GREATEST!r}, and not {sort!r}")
     name, clock = whole_named(model, cell), Clock(seconds, progress)
+    found = _critical_sought(model, name, sort, clock)
+    found = found or _critical_by_cases(model, name, sort, clock)
+    if isinstance(found, Optimum):
+        what = f"there is no {sort} {name} to be explained"
+        raise NothingFits(f"{what}: {found.headline()}")
+    return found
+
+
+def _critical_sought(model: Model, name: str, sort: str, clock: Clock) -> Critical | Optimum | None:
+    """The same by a program that searches for plans itself, or what is known of the end where there
+    is nothing to explain; None where that program can't tell."""
     if blames(model):
         with suppress(Unlike), Seeker(model, clock) as seeker:
             return _critical_by(seeker, name, sort)
-    return _critical_by_cases(model, name, sort, clock)
+    return None
 
 
-def _nothing_to_explain(sort: str, cell: str, optimum: Optimum) -> NothingFits:
-    return NothingFits(f"there is no {sort} {cell} to be explained: {optimum.headline()}")
+def _critical_by(seeker: Seeker, cell: str, sort: str) -> Critical | Optimum:
+    """The same by a program that searches, and where that takes long by cases too, in turns. Raises
+    Unlike."""
+    model, clock, ending = seeker.model, seeker.clock, Ending(seeker, cell, sort)
+    found, others = list[Leaving](), list[Critical | Optimum]()
 
-
-def _critical_by(seeker: Seeker, cell: str, sort: str) -> Critical:
-    """The same by a program that searches for plans itself. Raises Unlike."""
-    ending, found = Ending(seeker, cell, sort), list[Leaving]()
-
-    def run() -> None:
-        ending.run()
-        if ending.value is not None and abs(ending.value) < MOST_NUMBER:
+    def asked(seconds: float | None) -> bool:
+        """Goes on for so many seconds; whether all is known then."""
+        if not found and ending.run(seconds):
+            if ending.value is None or abs(ending.value) >= MOST_NUMBER:
+                return True
             beyond = {seeker.lines[cell]: beyond_of(sort, ending.value)}
             found.append(Leaving(seeker, beyond, ending.because))
-            found[0].run()
+        return bool(found) and found[0].run(seconds)
 
-    def result() -> Critical:
+    def run() -> None:
+        for seconds in clock.turns():
+            if asked(seconds) or clock.is_over():
+                break
+            # (where the end is known, the search is getting on: so it has most of the time)
+            part = seconds / 8 if found else seconds
+            others.append(_critical_by_cases(model, cell, sort, clock.turn(part)))
+            if _is_all(others[-1]):
+                break
+
+    def result() -> Critical | Optimum:
+        is_known = bool(found) and found[0].is_known
+        if others and not is_known and (_is_all(others[-1]) or not found):
+            return others[-1]
         optimum, _, plans = ending.known()
         if not found or optimum.value is None:
-            raise _nothing_to_explain(sort, cell, optimum)
-        made = _made(seeker.model, optimum, found[0].premises, found[0].is_known)
+            return optimum
+        made = _made(model, optimum, found[0].premises, found[0].is_known)
         made._certificate = _shown_by(seeker, made, found[0], plans[0])
         return made
 
-    return tried_by(seeker.clock, run, result)
+    return tried_by(clock, run, result)
+
+
+def _is_all(found: Critical | Optimum) -> bool:
+    """Whether nothing more is to be found out."""
+    return found.complete if isinstance(found, Critical) else found.proved
 
 
 def _shown_by(seeker: Seeker, made: Critical, leaving: Leaving, best: Fits) -> Certificate | None:
@@ -263,7 +292,7 @@ def _least_claim(
     return {"given": given, "keep": [], "told": told, **sets}
 
 
-def _critical_by_cases(model: Model, name: str, sort: str, clock: Clock) -> Critical:
+def _critical_by_cases(model: Model, name: str, sort: str, clock: Clock) -> Critical | Optimum:
     """The same by bounds that close in, and by trying sets of premises."""
     trial = Trial(model, (), clock)
     bounding = bounding_in(trial, model.believed(), name, sort)
@@ -279,9 +308,9 @@ def _critical_by_cases(model: Model, name: str, sort: str, clock: Clock) -> Crit
         if isinstance(refuted, Refuted):
             found.append((explored, explored.shrunk(refuted)))
 
-    def result() -> Critical:
+    def result() -> Critical | Optimum:
         if not found or bounding.value is None:
-            raise _nothing_to_explain(sort, name, bounding.result())
+            return bounding.result()
         explored, refuted = found[0]
         names = explored.names(refuted.mask)
         made = _made(model, bounding.result(), names, refuted.least)
