@@ -371,7 +371,31 @@ impl Derivation {
             instance,
             args: &args,
         };
-        self.nogood.by_call(basis.network, at, call, asked.rest)
+        let from = self.nogood.literals().len();
+        let is_done = self
+            .nogood
+            .by_call(basis.network, at, call, asked.rest)?;
+        self.drop_given(basis, from.saturating_sub(1));
+        Ok(is_done)
+    }
+
+    /// Drops those literals from one on that are so by no premise.
+    fn drop_given<R: Rule + Drop>(&mut self, basis: &Ground<'_, R>, from: usize)
+        requires kept { IsKept (stored_of R.value_of basis.now.network.now.library)
+            basis.now.network.now.cells }
+        ensures { Stays (stored_of R.value_of basis.now.network.now.library)
+            (attached_of basis.now.network.now.cells) basis.now.choices.now basis.now.root.now
+            basis.now.store.now self.old self.new }
+    {
+        let mut at = from;
+        for _ in from..self.nogood.literals().len() {
+            if at >= self.nogood.literals().len() {
+                return;
+            }
+            if !self.nogood.by_given(basis.network, at) {
+                at += 1;
+            }
+        }
     }
 
     /// That an instance ruled a number out of its output, by what was believed of its other inputs.
@@ -405,7 +429,12 @@ impl Derivation {
             instance,
             args: &args,
         };
-        self.nogood.by_narrowed_call(basis.network, at, call, place)
+        let from = self.nogood.literals().len();
+        let is_done = self
+            .nogood
+            .by_narrowed_call(basis.network, at, call, place)?;
+        self.drop_given(basis, from.saturating_sub(1));
+        Ok(is_done)
     }
 
     /// What a nogood that is kept said, by the rest of it: all that was so but the literal that it

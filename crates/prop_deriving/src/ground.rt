@@ -7,7 +7,7 @@ use crate::course::Course;
 use crate::sides::Sides;
 use prop_cells::Network;
 use prop_facts::widest;
-use prop_lattice::Info;
+use prop_lattice::{Info, Partial};
 use prop_learned::store::Store;
 use prop_premises::{Choice, Worldview};
 use prop_procedures::{Kinded, Rule};
@@ -38,11 +38,17 @@ impl<R: Rule + Drop> Ground<'_, R> {
         kind_at_place(self.network.data(), self.choices, place)
     }
 
-    /// The information that every value of a place has; nothing where there is no such place.
+    /// The information that every value of a place has by no premise; nothing where there is no
+    /// such place.
     pub(crate) fn widest(&self, place: usize) -> Info {
-        match self.kind(place) {
-            Some(kind) => widest(kind.kind, kind.size),
-            None => Info::Nothing,
+        let Some(kind) = self.kind(place) else {
+            return Info::Nothing;
+        };
+        let all = widest(kind.kind, kind.size);
+        if place >= self.network.cells() {
+            return all;
         }
+        let given = Worldview::empty(self.alloc);
+        all.merge(self.network.belief(place, &given))
     }
 }
