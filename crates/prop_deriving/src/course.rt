@@ -8,10 +8,11 @@ use std::alloc::{AllocError, Global};
 /// More halvings than it takes to find one of any row.
 const HALVINGS: usize = 64;
 
-/// For each place its entries, in order.
+/// For each place its entries, in order, and what its values have by no premise.
 #[derive(Drop)]
 pub struct Course {
     rows: Vec<Vec<usize>>,
+    given: Vec<Info>,
 }
 
 /// Where a row of entries is parted in two.
@@ -56,13 +57,21 @@ fn count_first(row: &[usize], mark: Mark<'_>) -> usize {
 }
 
 impl Course {
-    /// No entry of so many places.
-    pub fn new(alloc: Global, places: usize) -> Result<Course, AllocError> {
-        let mut rows = Vec::with_capacity(alloc, places)?;
-        for _ in 0..places {
+    /// No entry of as many places as this is given of.
+    pub fn new(alloc: Global, given: Vec<Info>) -> Result<Course, AllocError> {
+        let mut rows = Vec::with_capacity(alloc, given.len())?;
+        for _ in 0..given.len() {
             rows.push(Vec::new(alloc))?;
         }
-        Ok(Course { rows })
+        Ok(Course { rows, given })
+    }
+
+    /// What the values of a place have by no premise; nothing where there is no such place.
+    pub(crate) fn given(&self, place: usize) -> Info {
+        match self.given.get(place) {
+            Some(info) => *info,
+            None => Info::Nothing,
+        }
     }
 
     /// The next entry is the place's.

@@ -6,8 +6,6 @@ ghost use Rattle.prop_refuting.specs.Places.{kind_at_place};
 use crate::course::Course;
 use crate::sides::Sides;
 use prop_cells::Network;
-use prop_facts::widest;
-use prop_lattice::{Info, Partial};
 use prop_learned::store::Store;
 use prop_premises::{Choice, Worldview};
 use prop_procedures::{Kinded, Rule};
@@ -36,19 +34,5 @@ impl<R: Rule + Drop> Ground<'_, R> {
             self.now.choices.now place }
     {
         kind_at_place(self.network.data(), self.choices, place)
-    }
-
-    /// The information that every value of a place has by no premise; nothing where there is no
-    /// such place.
-    pub(crate) fn widest(&self, place: usize) -> Info {
-        let Some(kind) = self.kind(place) else {
-            return Info::Nothing;
-        };
-        let all = widest(kind.kind, kind.size);
-        if place >= self.network.cells() {
-            return all;
-        }
-        let given = Worldview::empty(self.alloc);
-        all.merge(self.network.belief(place, &given))
     }
 }
