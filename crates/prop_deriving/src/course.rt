@@ -8,6 +8,9 @@ use std::alloc::{AllocError, Global};
 /// More halvings than it takes to find one of any row.
 const HALVINGS: usize = 64;
 
+/// So many entries are looked at from the end of a row before it is halved.
+const AT_THE_END: usize = 2;
+
 /// For each place its entries, in order, and what its values have by no premise.
 #[derive(Drop)]
 pub struct Course {
@@ -41,8 +44,15 @@ impl Mark<'_> {
 
 /// How many entries of a row stand in the first part.
 fn count_first(row: &[usize], mark: Mark<'_>) -> usize {
-    let mut low = 0;
     let mut high = row.len();
+    // (that part mostly ends with one of the last)
+    for entry in row.iter().rev().take(AT_THE_END) {
+        if mark.is_behind(*entry) {
+            return high;
+        }
+        high = high.saturating_sub(1);
+    }
+    let mut low = 0;
     for _ in 0..HALVINGS {
         if low >= high {
             break;
