@@ -18,19 +18,19 @@ use prop_procedures::Rule;
 use prop_trail::{Trail, Waiting};
 use std::alloc::{AllocError, Global};
 
-/// What is believed of each place at the root: of a cell what its premises say, of a choice that it
-/// takes some side.
-fn beliefs<R: Rule + Drop>(
+/// What is believed of each place where this much is: of a cell what its premises say, of a choice
+/// that it takes some side.
+fn beliefs_of<R: Rule + Drop>(
     alloc: Global,
     network: &Network<R>,
     choices: &[Choice],
-    root: &Worldview,
+    worldview: &Worldview,
 ) -> Result<Vec<Info>, AllocError> {
     let mut beliefs = Vec::new(alloc);
     for cell in 0..network.cells() {
         let kind = network.data().kind(cell);
         let all = widest(kind.kind, kind.size);
-        beliefs.push(network.belief(cell, root).merge(all))?;
+        beliefs.push(network.belief(cell, worldview).merge(all))?;
     }
     for choice in choices {
         beliefs.push(widest(Kind::Set(0), choice.sides))?;
@@ -104,9 +104,10 @@ impl Spread {
         ensures root { IfOk result (λ s. s.root ≡ root) }
     {
         let sides = Sides::new(alloc, network, choices)?;
-        let beliefs = beliefs(alloc, network, choices, &root)?;
+        let beliefs = beliefs_of(alloc, network, choices, &root)?;
         let (sizes, store) = room_for(alloc, network, choices, beliefs.len())?;
-        let present = Present::new(alloc, &beliefs)?;
+        let given = beliefs_of(alloc, network, choices, &Worldview::empty(alloc))?;
+        let present = Present::new(alloc, &beliefs, given)?;
         let trail = Trail::new(alloc, beliefs)?;
         let (wiring, waiting) = woken(alloc, network, &trail)?;
         Ok(Spread {

@@ -43,12 +43,16 @@ pub(crate) fn is_decided(info: Info) -> bool {
 }
 
 impl Present {
-    /// This is believed of each place, and nothing was said yet.
-    pub(crate) fn new(alloc: Global, beliefs: &[Info]) -> Result<Present, AllocError> {
+    /// This is believed of each place, this much of it by no premise, and nothing was said yet.
+    pub(crate) fn new(
+        alloc: Global,
+        beliefs: &[Info],
+        given: Vec<Info>,
+    ) -> Result<Present, AllocError> {
         let mut present = Present {
             infos: Vec::from_slice(alloc, beliefs)?,
             open: vec![in alloc; 0; beliefs.len() / WORD + 1]?,
-            course: Course::new(alloc, beliefs.len())?,
+            course: Course::new(alloc, given)?,
             kept: Vec::from_slice(alloc, beliefs)?,
         };
         for (place, info) in beliefs.iter().enumerate() {

@@ -144,6 +144,14 @@ fn is_seen(said: &Clash, changes: Changes) -> bool {
     said.out.is_none() || changes.low || changes.high || changes.point
 }
 
+/// Whether a number lies within what is believed, whichever single ones are out.
+fn is_within(info: Info, number: i64) -> bool {
+    match info {
+        Info::Span(span) => span.lo() <= number && number <= span.hi(),
+        _ => true,
+    }
+}
+
 /// The other elements.
 fn without_bit(info: Info, bit: u64) -> Info {
     match info {
@@ -514,10 +522,13 @@ impl Spread {
         ensures same { self.new ≡ self.old }
     {
         for place in 0..args.len() {
-            if let Some(number) = rule.rules_out(x.param(), args, place) {
-                if !self.rule_out(x.output(), number, by)? {
-                    return Ok(false);
-                }
+            let Some(number) = rule.rules_out(x.param(), args, place) else {
+                continue;
+            };
+            if is_within(self.present.info(x.output()), number)
+                && !self.rule_out(x.output(), number, by)?
+            {
+                return Ok(false);
             }
         }
         Ok(true)
