@@ -1,3 +1,4 @@
+use Rattle.std.proofs.Common.{◌∙◌}
 use Rattle.prop_procedures.specs.Kept.{stored_of}
 use Rattle.prop_plans.specs.Held.{attached_of}
 use Rattle.prop_deriving.proofs.StayLemmas.{stays_from}
@@ -11,5 +12,5 @@ returns g c =
     let choices = basis.choices.now in
     let root = basis.root.now in
     let slots = basis.store.now in
-    stays_from library n choices root slots c.args.self.now c.forget_maker.new.self c.drop_given.new.self
-    c.forget_maker.ensures c.drop_given.ensures
+    stays_from library n choices root slots c.args.self.now c.self.inside.derivation c.drop_given.new.self
+    (c.self.view_is ∙ c.forget_maker.ensures) c.drop_given.ensures

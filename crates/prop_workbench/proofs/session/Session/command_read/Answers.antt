@@ -8,7 +8,7 @@ use Rattle.prop_workbench.specs.Sessions.{state_of, shown_of, work_of, steps_of}
 use Rattle.prop_workbench.proofs.EarnedLemmas.{earns_none}
 use Rattle.prop_workbench.proofs.LineLemmas.{covers_none, still_lacking, step_of_read}
 use Rattle.prop_workbench.proofs.StepLemmas.{lacking_same, steps_within}
-use Rattle.prop_workbench.proofs.session.Session.command.Goals as goal
+use Rattle.prop_workbench.proofs.session.Session.command_read.Goals as goal
 
 pub returns-then-is_memory-clause-step : goal.returns-then-is_memory-clause-step
 returns-then-is_memory-clause-step g c =
