@@ -104,6 +104,7 @@ pub(crate) struct Asked<'a> {
 /// As many places as most procedures have at the most, and as any has. (All the room for places is
 /// filled first, so that for more is kept apart.)
 const FEW: usize = 10;
+
 const MOST: usize = 385;
 
 /// The cell at a place, the output last.

@@ -25,6 +25,7 @@ use std::alloc::Global;
 /// As many places as most procedures have at the most, and as any has. (All the room for places is
 /// filled first, so that for more is kept apart.)
 const FEW: usize = 10;
+
 const MOST: usize = 385;
 
 /// Whether a procedure with this need does not take a parameter.

@@ -1,6 +1,7 @@
 -- What the steps of a derivation rest on.
 use Rattle.std.proofs.Common.{◌≡◌, ◌≢◌, ℕ, ◌<◌, Bool, true, false, List, [], ◌∷◌, ◌++◌, length, map}
-use Rattle.std.proofs.Common.{refl, sym, subst, ap, ◌∙◌, ◌||◌, arith, rules, All, Contains, Option, Some, None, slice_get}
+use Rattle.std.proofs.Common.{refl, sym, subst, ap, ◌∙◌, ◌||◌, arith, rules, All, Contains}
+use Rattle.std.proofs.Common.{Option, Some, None, slice_get}
 use Rattle.std.proofs.Common.{ℤ, pos, ◌≤ℤ◌, ◌+ℤ◌, neg_ℤ, if◌then◌else◌, IfSome, ◌⊎◌, inl, inr}
 use Rattle.std.specs.Prelude.{int_le}
 use Rattle.std.specs.List.{AllZip}

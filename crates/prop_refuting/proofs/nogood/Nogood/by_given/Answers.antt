@@ -15,6 +15,7 @@ returns-clause-narrows g c = λ choices.
     let within : x.place < length d.kinds = omega arith in
     given_narrows library d choices old c.drop_at.new.self c.args.at x c.belief-given.result c.requires.kept
     (read_at old.literals c.literals.result.now c.args.at x c.literals.ensures c.index-literals-at.is c.requires.at)
-    within (rw c.belief-given.ensures (rw c.empty.ensures (believed_entailed library d (set_of []) c.requires.kept x.place)))
+    within (rw c.belief-given.ensures (rw c.empty.ensures
+    (believed_entailed library d (set_of []) c.requires.kept x.place)))
     (c.follows_from.ensures.0 c.if-not-follows_from.false)
     c.drop_at.ensures

@@ -17,7 +17,8 @@ pub returns-in-Err-clause-read : goal.returns-in-Err-clause-read
 returns-in-Err-clause-read g c =
     let s = c.args.self.now in
     let library = stored_of g.R.Rule.value_of s.live.network.library in
-    let refused = follows_refused c.args.line.now c.in-Err.refusal (subst (λ r. Reads r (IsReading c.args.line.now)) c.in-Err.is c.requires.read)
+    let read = subst (λ r. Reads r (IsReading c.args.line.now)) c.in-Err.is c.requires.read in
+    let refused = follows_refused c.args.line.now c.in-Err.refusal read
     (λ m. c.requires.memory (c.in-Err.is ∙ ap Err m)) in (
       refused.0,
       refused.1,
@@ -30,7 +31,8 @@ returns-in-Err-clause-read g c =
     )
 
 pub carry_out-requires-clause-some : goal.carry_out-requires-clause-some
-carry_out-requires-clause-some g c = has_elements c.args.line.now _ (subst (λ r. Reads r (IsReading c.args.line.now)) c.in-Ok.is c.requires.read)
+carry_out-requires-clause-some g c =
+    has_elements c.args.line.now _ (subst (λ r. Reads r (IsReading c.args.line.now)) c.in-Ok.is c.requires.read)
 
 pub returns-in-Err-clause-keeps : goal.returns-in-Err-clause-keeps
 returns-in-Err-clause-keeps g c = stays (unchanged c.requires.sound)
