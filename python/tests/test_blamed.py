@@ -147,6 +147,17 @@ def test_why_nothing_is_better(lines: list[str], end: str, value: int) -> None:
             assert all(is_better(named - {name}) for name in named)
 
 
+def test_why_an_end_is_none_other_where_a_search_does_not_end() -> None:
+    """Of numbers without bounds, which are told apart by what follows and not by a search."""
+    with Workbench() as w:
+        one, other = w.number("one"), w.number("other")
+        w.require(one * 3 == other + one * 2, under="same")
+        w.require(other >= 10, under="much")
+        found = w.critical(one)
+        assert set(found) == {"same", "much"} and found.value == 10 and found.complete
+        assert found.certificate and found.certificate.check()
+
+
 def test_what_was_left_out_doesnt_come_back() -> None:
     """Of three premises that say the same one stays."""
     with Workbench() as w:
