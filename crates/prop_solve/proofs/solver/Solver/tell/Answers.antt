@@ -1,4 +1,4 @@
-use Rattle.std.proofs.Common.{◌≡◌, ◌∙◌, ℕ, List, true, Ok, ap, subst, sym}
+use Rattle.std.proofs.Common.{◌≡◌, ◌∙◌, ℕ, List, true, Ok, subst, sym}
 use Rattle.prop_lattice.specs.declared.info.Info.{Info}
 use Rattle.prop_numbers.specs.Sets.{set_of}
 use Rattle.prop_premises.specs.ChoiceLists.{IsChoiceList, worldview}
