@@ -202,7 +202,7 @@ module _ (library : List Stored) (names : CellNames) (words : Vocabulary) (d : D
 -- ---- names at points that are alike
 
 module _ (names : CellNames) (words : Vocabulary) (d : Data) (whole : Span) (domains : ℕ)
-    (named : All (λ cell. cell < length d.kinds) names.cells) (related : List ℕ → List Value → Bool)
+    (named : All (λ cell. cell < length d.kinds) names.cells)
     (points all : ℕ → Point) (same : (i : ℕ) → i < length d.kinds → all i ≡ points i)
   where
     abbrev at : (ℕ → Point) → ℕ → Value
@@ -210,9 +210,9 @@ module _ (names : CellNames) (words : Vocabulary) (d : Data) (whole : Span) (dom
         let lexicon = lexicon_in (seen names words d whole domains) in
         value_as lexicon (lexicon.known i).kinded (a i)
 
-    pub names_alike : names_at (lexicon_in (seen names words d whole domains)) related all
-        ≡ names_at (lexicon_in (seen names words d whole domains)) related points
-    names_alike = λ j. record { value = λ w. value_alike w j; related = related }
+    pub names_alike : names_at (lexicon_in (seen names words d whole domains)) all
+        ≡ names_at (lexicon_in (seen names words d whole domains)) points
+    names_alike = let lexicon = lexicon_in (seen names words d whole domains) in λ j. record { value = λ w. value_alike w j; related = (names_at lexicon points).related }
       where
         by : (w : List ℕ) (o : Option ℕ) → cond (is_utf8 w) (cell_named names w) None ≡ o
             → option_map_or (at all) o (Text w) ≡ option_map_or (at points) o (Text w)

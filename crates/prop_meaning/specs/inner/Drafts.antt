@@ -119,6 +119,10 @@ pub record IsProper (lexicon : Lexicon) (kinded : Kinded) (p : Point) : Type 0 w
   pub of_kind : IsPointOf kinded.kind kinded.size p
   pub named : IsNamed lexicon kinded p
 
+-- the element is one of the kind, and has a name
+abbrev pub IsElement : Lexicon → Kinded → ℕ → Type 0
+IsElement lexicon kinded i = IsLexicon lexicon → IsProper lexicon kinded (Element i)
+
 -- the point is as is known, and has a name
 pub record IsPoint (lexicon : Lexicon) (known : Known) (p : Point) : Type 0 where
   pub within : IsWithin known p
@@ -158,5 +162,5 @@ pub record Names (lexicon : Lexicon) (made : List Made) (kinded : Kinded) (word 
 pub record Shows (lexicon : Lexicon) (made : List Made) (kinded : Kinded) (t : Term)
     (place : ℕ) : Type 0 where
   pub has : Has lexicon made place kinded
-  pub worth_is : (a : ℕ → Point) (related : List ℕ → List Value → Bool) → Runs lexicon made a
-      → worth (names_at lexicon related a) t ≡ Some (value_as lexicon kinded (a place))
+  pub worth_is : (a : ℕ → Point) → Runs lexicon made a
+      → worth (names_at lexicon a) t ≡ Some (value_as lexicon kinded (a place))
