@@ -101,6 +101,11 @@ pub(crate) struct Asked<'a> {
     pub(crate) out: usize,
 }
 
+/// As many places as most procedures have at the most, and as any has. (All the room for places is
+/// filled first, so that for more is kept apart.)
+const FEW: usize = 10;
+const MOST: usize = 385;
+
 /// The cell at a place, the output last.
 fn cell_at(ins: &[usize], out: usize, i: usize) -> usize
     requires { i ≤ length ins.now }
@@ -110,14 +115,14 @@ fn cell_at(ins: &[usize], out: usize, i: usize) -> usize
 }
 
 /// The shapes of a procedure's places, each with the kind of its cell. It takes no memory.
-fn places(
+fn places<const N: usize>(
     alloc: Global,
     shapes: &[Shape],
     shape: Shape,
     held: &Cells,
     asked: &Asked<'_>,
-) -> SmallVec<(Shape, Kinded), 129>
-    requires few { length asked.now.ins.now ≤ 128 }
+) -> SmallVec<(Shape, Kinded), N>
+    requires few { length asked.now.ins.now < N }
     requires count { length asked.now.ins.now ≡ length shapes.now }
     requires cells { All (λ c. c < length held.now.kinds)
         (asked.now.ins.now ++ asked.now.out ∷ []) }
@@ -147,6 +152,10 @@ pub(crate) fn kinds_fit<R: Rule + Drop>(
         (sides_given held.now.params asked.now.param) (asked.now.ins.now ++ asked.now.out ∷ []) }
 {
     let given = sides_given(held.params(), asked.param);
-    let places = places(alloc, p.ins(), p.out(), held, asked);
+    if asked.ins.len() < FEW {
+        let few = places::<FEW>(alloc, p.ins(), p.out(), held, asked);
+        return are_right(p.need(), given, &few);
+    }
+    let places = places::<MOST>(alloc, p.ins(), p.out(), held, asked);
     are_right(p.need(), given, &places)
 }

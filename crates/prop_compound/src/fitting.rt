@@ -22,6 +22,11 @@ use prop_procedures::{Flat, Kinded, Library, Need, Param, Placed, Rule, Shape};
 use smallvec::SmallVec;
 use std::alloc::Global;
 
+/// As many places as most procedures have at the most, and as any has. (All the room for places is
+/// filled first, so that for more is kept apart.)
+const FEW: usize = 10;
+const MOST: usize = 385;
+
 /// Whether a procedure with this need does not take a parameter.
 fn rejects(need: Need, param: &Param) -> bool
     ensures { result ≡ is_none (fitting_param need (Some param.now)) }
@@ -68,14 +73,14 @@ fn are_of_spans(ins: &[Shape], out: Shape, kinds: &[Kinded], instance: &Placed) 
 }
 
 /// The shapes of a procedure's places, each with the kind of its cell. It takes no memory.
-fn places(
+fn places<const N: usize>(
     alloc: Global,
     ins: &[Shape],
     out: Shape,
     kinds: &[Kinded],
     instance: &Placed,
-) -> SmallVec<(Shape, Kinded), 129>
-    requires few { length ins.now ≤ 128 }
+) -> SmallVec<(Shape, Kinded), N>
+    requires few { length ins.now < N }
     requires count { length instance.now.inputs.items ≡ length ins.now }
     ensures { result.items ≡ zip (ins.now ++ out ∷ [])
         (map (kind_at kinds.now) (instance.now.inputs.items ++ instance.now.output ∷ [])) }
@@ -104,11 +109,15 @@ fn is_kind_wrong<R: Rule + Drop>(
     if are_of_spans(p.ins(), p.out(), kinds, instance) {
         return false;
     }
-    let places = places(alloc, p.ins(), p.out(), kinds, instance);
     let sides = match param_at(params, instance.param) {
         Some(param) => sides_of(param),
         None => None,
     };
+    if p.ins().len() < FEW {
+        let few = places::<FEW>(alloc, p.ins(), p.out(), kinds, instance);
+        return !are_right(p.need(), sides, &few);
+    }
+    let places = places::<MOST>(alloc, p.ins(), p.out(), kinds, instance);
     !are_right(p.need(), sides, &places)
 }
 

@@ -14,25 +14,39 @@ pub record Named : Type 0 where
   pub rule : Many
   pub ins : List Shape
 
--- the digits of a number below a hundred
+-- the digits of a number below a thousand
 abbrev pub digits : ℕ → List ℕ
-digits n = if nat_lt n 10 then (48 + n) ∷ [] else (48 + n / 10) ∷ (48 + n % 10) ∷ []
+digits n = if nat_lt n 10 then (48 + n) ∷ [] else if nat_lt n 100
+    then (48 + n / 10) ∷ (48 + n % 10) ∷ []
+    else (48 + n / 100) ∷ (48 + n / 10 % 10) ∷ (48 + n % 10) ∷ []
 
--- A rule's procedures for 1 to n others, or nodes, named by these numbers. They have `own` inputs,
--- and beside these `each` for each of the others.
+-- A rule's procedure for n others, or nodes, named by their number. It has `own` inputs, and beside
+-- these `each` for each of the others.
+abbrev pub procedure_of : List ℕ → Many → ℕ → ℕ → ℕ → Named
+procedure_of name rule own each n = record {
+  name = name ++ digits n;
+  rule = rule;
+  ins = replicate (own + each * n) Span;
+}
+
+-- those for 1 to n others
 abbrev pub procedures_of : List ℕ → Many → ℕ → ℕ → ℕ → List Named
 procedures_of name rule own each zero = []
-procedures_of name rule own each (suc n) = procedures_of name rule own each n ++ record {
-  name = name ++ digits (suc n);
-  rule = rule;
-  ins = replicate (own + each * suc n) Span;
-} ∷ []
+procedures_of name rule own each (suc n) =
+    procedures_of name rule own each n ++ procedure_of name rule own each (suc n) ∷ []
+
+-- those for 50, 60 and so on, n of them
+abbrev pub tens_of : List ℕ → Many → ℕ → ℕ → ℕ → List Named
+tens_of name rule own each zero = []
+tens_of name rule own each (suc n) =
+    tens_of name rule own each n ++ procedure_of name rule own each (50 + 10 * n) ∷ []
 
 -- the procedures of tasks and of numbers that differ, in order
 abbrev pub in_order : List Named
 in_order = procedures_of (codes "cumulative") Cumulative 4 3 40
     ++ procedures_of (codes "disjoint") Disjoint 2 2 40
     ++ procedures_of (codes "differ") Differ 1 1 63
+    ++ tens_of (codes "cumulative") Cumulative 4 3 8
 
 -- those of circuits
 abbrev pub circuits_in_order : List Named
@@ -47,11 +61,11 @@ abbrev pub CircuitsAreStated : Type 0
 CircuitsAreStated =
     map (λ p. record { name = p.0.now; rule = p.1; ins = p.2.now }) CIRCUITS ≡ circuits_in_order
 
--- the procedure has 1 to 128 inputs, as its rule may have
+-- the procedure has 1 to 384 inputs, as its rule may have
 pub record IsFormed (p : Named) : Type 0 where
   pub has_inputs : HasInputs p.rule p.ins
   pub some : 1 ≤ length p.ins
-  pub few : length p.ins ≤ 128
+  pub few : length p.ins ≤ 384
 
 -- each procedure has such inputs
 abbrev pub EachIsFormed : Type 0

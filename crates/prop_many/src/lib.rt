@@ -5,7 +5,7 @@
 //! holds every related point (`Many`), and of single numbers those alone (`Many::exact`). Lengths,
 //! demands and capacities are inputs as all others are, so they may be open too.
 //!
-//! The procedures are those that the specification lists, up to 128 inputs each, in a form that its
+//! The procedures are those that the specification lists, up to 384 inputs each, in a form that its
 //! rule has (`procedures_are_stated`).
 #![tactic(auto)]
 

@@ -92,15 +92,15 @@ unmet_is_none library d s values n l unmet plan =
 
 -- ---- one instance
 
--- a procedure has no more than 128 inputs
+-- a procedure has no more than 384 inputs
 few_inputs : {R : Type 0} {X : Type 0} {F : X → Type 0} {g : _} → (value : R → Param → List Info → Info)
     (library : Library R X F g) (kinds : List Kinded) (x : Instance) → IsFitting (stored_of value library) kinds x
-    → length x.inputs ≤ 128
+    → length x.inputs ≤ 384
 few_inputs {R} {X} {F} {g} value library kinds x f =
     rw f.fits.count (by library.procedures.items x.procedure f.procedure f.at)
   where
     by : (procedures : List (Procedure R X F g)) (n : ℕ) (p : Stored)
-        → slice_get (map (stored_as value) procedures) n ≡ Some p → length p.ins ≤ 128
+        → slice_get (map (stored_as value) procedures) n ≡ Some p → length p.ins ≤ 384
     by [] n p at = absurd (none-some p at)
     by (q ∷ rest) zero p at =
         let same : stored_as value q ≡ p = same_Some (stored_as value q) p at in rw (← same) q.few
@@ -108,7 +108,7 @@ few_inputs {R} {X} {F} {g} value library kinds x f =
 
 pub few_at : {R : Type 0} {X : Type 0} {F : X → Type 0} {g : _} → (value : R → Param → List Info → Info)
     (library : Library R X F g) (d : Data) (n : ℕ) (x : Instance) → IsKept (stored_of value library) d
-    → slice_get d.instances n ≡ Some x → length x.inputs ≤ 128
+    → slice_get d.instances n ≡ Some x → length x.inputs ≤ 384
 few_at value library d n x kept at =
     few_inputs value library d.kinds x
     (All-at (IsFitting (stored_of value library) d.kinds) d.instances n x kept.fits at)

@@ -16,7 +16,7 @@ use prop_premises::{Premise, Worldview};
 use prop_procedures::{Kinded, Rule};
 
 /// How many inputs a procedure may have.
-const MOST_INPUTS: usize = 128;
+const MOST_INPUTS: usize = 384;
 
 /// As many inputs as most instances have at the most: room for more is filled for the others alone.
 const FEW: usize = 16;

@@ -71,10 +71,10 @@ LargerForm = either_of ExcluderForm (either_of ManyForm RowForm)
 abbrev pub FormBy : Mixed → List Shape → Shape → Need → Type 0
 FormBy = either_of KitForm (either_of WideForm LargerForm)
 
--- a procedure has 1 to 128 inputs, in a form that its rule has
+-- a procedure has 1 to 384 inputs, in a form that its rule has
 pub record IsFormed (p : Made) : Type 0 where
   pub some : 1 ≤ length p.form.ins
-  pub few : length p.form.ins ≤ 128
+  pub few : length p.form.ins ≤ 384
   pub formed : FormBy p.rule p.form.ins p.form.out p.form.need
 
 kit_made : (rule : Kit) → IsFormed (of_kit rule)
@@ -181,7 +181,7 @@ wides_formed = all_from IsWideFormed named (
 excluder_made : (rule : Excluder) → IsFormed (of_excluder rule)
 excluder_made rule = record { some = few.0; few = few.1; formed = (refl, refl, refl) }
   where
-    few_of : (rule : Excluder) → (1 ≤ length (ins_of rule)) × (length (ins_of rule) ≤ 128)
+    few_of : (rule : Excluder) → (1 ≤ length (ins_of rule)) × (length (ins_of rule) ≤ 384)
     few_of One = (omega arith, omega arith)
     few_of Two = (omega arith, omega arith)
     few_of Three = (omega arith, omega arith)
@@ -191,14 +191,15 @@ excluder_made rule = record { some = few.0; few = few.1; formed = (refl, refl, r
     few_of Seven = (omega arith, omega arith)
     few_of Eight = (omega arith, omega arith)
 
-    few : (1 ≤ length (ins_of rule)) × (length (ins_of rule) ≤ 128)
+    few : (1 ≤ length (ins_of rule)) × (length (ins_of rule) ≤ 384)
     few = few_of rule
 
 many_made : (p : ManyNamed) → IsManyFormed p → IsFormed (of_many p)
 many_made p h = record { some = h.some; few = h.few; formed = (h.has_inputs, refl, refl) }
 
 rows_made : (p : RowNamed) → IsRowFormed p → IsFormed (of_rows p)
-rows_made p h = record { some = h.some; few = h.formed.3; formed = h.formed }
+rows_made p h =
+    let few = h.formed.3 in record { some = h.some; few = omega (arith, few); formed = h.formed }
 
 -- those of many cells and of rows
 manys_formed : (named : List ManyNamed) → All IsManyFormed named → All IsFormed (map of_many named)

@@ -33,7 +33,7 @@ module _ (ins : List Shape) (out : Shape) (kinds : List Kinded) (inputs : List â
       cc
 
 pub loop-i-preserved : goal.loop-i-preserved
-loop-i-preserved c =
+loop-i-preserved g c =
     let h = c.loop-i.invariant in
     let i = c.loop-i.i in
     let asked = c.args.asked.now in
@@ -51,7 +51,7 @@ loop-i-preserved c =
     }
 
 pub returns : goal.returns
-returns c =
+returns g c =
     let asked = c.args.asked.now in
     let s = size c.args.shapes.now c.args.shape c.args.held.now.kinds asked.ins.now asked.out c.requires.count in
     c.loop-i.invariant.items âˆ™ take_all c.loop-i.i _ (omega (arith, s, c.loop-i-test.false))

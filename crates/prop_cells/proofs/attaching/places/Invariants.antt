@@ -3,9 +3,9 @@ use Rattle.prop_procedures.specs.Fitting.{kind_at}
 use Rattle.prop_cells.proofs.attaching.places.Given as goal
 
 abbrev pub invariant-loop-i : goal.invariant-loop-i
-invariant-loop-i l = record {
+invariant-loop-i g l = record {
   items : l.places.items ≡ take l.i (zip (l.shapes ++ l.shape ∷ [])
       (map (kind_at l.held.kinds) (l.asked.ins.now ++ l.asked.out ∷ [])));
   count : length l.places.items ≡ l.i;
-  room : l.places.capacity ≡ 129;
+  room : l.places.capacity ≡ g.row.N;
 }

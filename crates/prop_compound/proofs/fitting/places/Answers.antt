@@ -4,7 +4,7 @@ use Rattle.prop_compound.proofs.Zips.{places_more, places_all}
 use Rattle.prop_compound.proofs.fitting.places.Goals as goal
 
 pub loop-i-preserved : goal.loop-i-preserved
-loop-i-preserved c =
+loop-i-preserved g c =
     let same = c.deref-cell-items.ensures.value in
     let h = c.loop-i.invariant in
     let longer = ap length c.push_reserved.ensures.items in
@@ -18,7 +18,7 @@ loop-i-preserved c =
     }
 
 pub returns : goal.returns
-returns c =
+returns g c =
     let same = c.deref-cell-items.ensures.value in
     places_all c.args.ins.now c.args.kinds.now c.args.instance.now.inputs.items c.requires.count c.loop-i.places.items
     c.push_reserved-2.new.self.items c.loop-i.i c.args.instance.now.output c.args.out c.kind_at-2.result

@@ -17,7 +17,7 @@ slice_bounds-is_met_in-end g c =
     let at : slice_get c.args.network.now.cells.instances c.args.number
     ≡ Some c.instance-x.result.now =
     rw c.data.ensures at c.instance-x.ensures.at in
-    let few : length c.inputs-count.result.now ≤ 128 =
+    let few : length c.inputs-count.result.now ≤ 384 =
     rw c.inputs-count.ensures (few_at g.R.Rule.value_of c.args.network.now.library c.args.network.now.cells
     c.args.number c.instance-x.result.now c.requires.kept at) in
     sym (room_for (length c.inputs-count.result.now) _ few)
@@ -27,7 +27,7 @@ is_met_in-requires-clause-places g c = λ y at_y.
     let at : slice_get c.args.network.now.cells.instances c.args.number
     ≡ Some c.instance-x.result.now =
     rw c.data.ensures at c.instance-x.ensures.at in
-    let few : length c.inputs-count.result.now ≤ 128 =
+    let few : length c.inputs-count.result.now ≤ 384 =
     rw c.inputs-count.ensures (few_at g.R.Rule.value_of c.args.network.now.library c.args.network.now.cells
     c.args.number c.instance-x.result.now c.requires.kept at) in
     let same : c.instance-x.result.now ≡ y = same_Some c.instance-x.result.now y (sym at ∙ at_y) in
