@@ -23,7 +23,7 @@ fn domain_after(words: &Vocabulary, kinded: Kinded) -> usize
 }
 
 /// How many domains are there at the least: those up to the last that a cell is of.
-pub(crate) fn domains_of(words: &Vocabulary, cells: &Cells) -> usize
+fn domains_of(words: &Vocabulary, cells: &Cells) -> usize
     requires { All (IsSized words.now) cells.now.kinds }
     ensures there { result ≤ length words.now.domains }
 {
@@ -53,7 +53,7 @@ fn domains_related(words: &Vocabulary, name: &[u8]) -> usize
 }
 
 /// How many domains there are up to the last of a relation that a term names.
-pub(crate) fn domains_in(words: &Vocabulary, term: &Term<'_>) -> usize
+fn domains_in(words: &Vocabulary, term: &Term<'_>) -> usize
     ensures there { result ≤ length words.now.domains }
 {
     match term {
@@ -65,6 +65,15 @@ pub(crate) fn domains_in(words: &Vocabulary, term: &Term<'_>) -> usize
         Term::Two(_, left, right) => domains_in(words, left).max(domains_in(words, right)),
         _ => 0,
     }
+}
+
+/// How many domains there are at the least: those up to the last that a cell is of, or a relation
+/// that a term names.
+pub(crate) fn domains_there(words: &Vocabulary, cells: &Cells, term: &Term<'_>) -> usize
+    requires { All (IsSized words.now) cells.now.kinds }
+    ensures { result ≤ length words.now.domains }
+{
+    domains_of(words, cells).max(domains_in(words, term))
 }
 
 /// Each vocabulary is whole.

@@ -6,7 +6,7 @@ ghost use Rattle.prop_terms.specs.Terms.{term_of};
 ghost use Rattle.prop_demands.specs.Refusing.{is_of_term};
 ghost use Rattle.prop_demands.specs.inner.Postings.{IsForeseenIn, IsUnderstoodIn};
 
-use crate::known::{all_numbers, domains_in, domains_of, is_whole};
+use crate::known::{all_numbers, domains_there, is_whole};
 use crate::posting::{foreseen_of, posting};
 use crate::reading::Glossary;
 use prop_cells::Cells;
@@ -47,7 +47,7 @@ pub fn understood(
         cells,
         nobody: &nobody,
         whole: all_numbers(),
-        domains: domains_of(words, cells).max(domains_in(words, term)),
+        domains: domains_there(words, cells, term),
     };
     posting(alloc, &glossary, term)
 }
@@ -77,7 +77,7 @@ pub fn foreseen(
         cells,
         nobody: &nobody,
         whole: all_numbers(),
-        domains: domains_of(words, cells).max(domains_in(words, term)),
+        domains: domains_there(words, cells, term),
     };
     foreseen_of(alloc, &glossary, term)
 }
