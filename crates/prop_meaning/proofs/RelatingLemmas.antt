@@ -1,14 +1,21 @@
 -- Cells show whether two elements are a pair of a relation.
 use Rattle.std.proofs.Common.{◌≡◌, ◌∙◌, ◌⊎◌, inl, inr, ℕ, zero, suc, ◌<◌, ◌≤◌, List, [], ◌∷◌, ◌++◌, Bool}
-use Rattle.std.proofs.Common.{true, false, cond, not, ◌&&◌, ◌||◌, ◌==◌, nat_lt, Option, Some}
+use Rattle.std.proofs.Common.{true, false, cond, not, ◌&&◌, ◌||◌, ◌==◌, ◌^◌, nat_lt, Option, Some}
 use Rattle.std.proofs.Common.{refl, ap, sym, subst, arith, eq-eqb, eqb-true}
+use Rattle.std.specs.Int.{bit_at}
 use Rattle.std.specs.Option.{option_map_or}
+use Rattle.std.specs.Prelude.{slice_index}
+use Rattle.std.proofs.lemmas.Nat.Bits.{bit_at-pow_same, bit_at-pow_other}
 use Rattle.std.proofs.lemmas.Bool.{lt-ltb, ltb-true, ltb-false}
 use Rattle.prop_lattice.specs.Points.{Point, Element, Number, Symbol, IsPointOf}
+use Rattle.prop_lattice.specs.declared.elements.Elements as sets
+use Rattle.prop_lattice.specs.declared.info.Info.{Info}
+use Rattle.prop_lattice.specs.declared.info.Info.TheVariants as infos
 use Rattle.prop_lattice.specs.declared.info.Kind.TheVariants.{Set}
 use Rattle.prop_procedures.specs.declared.shape.Kinded.{Kinded}
 use Rattle.prop_sets.specs.Chosen.{any_below}
-use Rattle.prop_sets.specs.Relation.{Relation}
+use Rattle.prop_sets.specs.Images.{HoldsJust, IsInImage}
+use Rattle.prop_sets.specs.Relation.{HasPair, Relation}
 use Rattle.prop_sets.specs.declared.side.Side.{Side}
 use Rattle.prop_terms.specs.declared.operators.Infix.TheVariants as between
 use Rattle.prop_terms.specs.Meaning.{Value, Text, all_of, is_same, truth, worth}
@@ -73,6 +80,59 @@ or_none false = refl
 and_whole : (b : Bool) → (b && true) ≡ b
 and_whole true = refl
 and_whole false = refl
+
+-- ---- pairs
+
+one_bit : (i j : ℕ) → bit_at (2 ^ i) j ≡ 1 → j ≡ i
+one_bit i j h = by (decided j i)
+  where
+    other : (j ≡ i → ⊥) → j ≡ i
+    other n = absurd (omega (arith, h, bit_at-pow_other i j n))
+
+    by : (j ≡ i) ⊎ ((j < i) ⊎ (i < j)) → j ≡ i
+    by (inl e) = e
+    by (inr (inl l)) = other (λ e. omega (arith, l, e))
+    by (inr (inr l)) = other (λ e. omega (arith, l, e))
+
+-- an element that is paired with one of a single one is paired with that
+from_image : (m : Relation) (x : sets.Elements) (i j : ℕ) → x.bits ≡ 2 ^ i → IsInImage m x j → are_paired m i j ≡ true
+from_image m x i j b (k, has, pair) =
+    let same : k ≡ i = one_bit i k (subst (λ n. bit_at n k ≡ 1) b has) in
+    eq-eqb (bit_at (slice_index m.rows i) j) 1 (subst (λ n. bit_at (slice_index m.rows n) j ≡ 1) same pair.partners)
+
+into_image : (m : Relation) (x : sets.Elements) (i j : ℕ) → x.bits ≡ 2 ^ i → i < m.from.size → j < m.to.size
+    → are_paired m i j ≡ true → IsInImage m x j
+into_image m x i j b l k e = (
+  i,
+  subst (λ n. bit_at n i ≡ 1) (sym b) (bit_at-pow_same i),
+  record { first = l; second = k; partners = eqb-true (bit_at (slice_index m.rows i) j) 1 e },
+)
+
+as_truth : (b c : Bool) → (b ≡ true → c ≡ true) → (c ≡ true → b ≡ true) → b ≡ c
+as_truth true c f g = sym (f refl)
+as_truth false true f g = g refl
+as_truth false false f g = refl
+
+pub paired_set : (m : Relation) (x e : sets.Elements) (i j : ℕ) → x.bits ≡ 2 ^ i → i < m.from.size → j < m.to.size
+    → HoldsJust (IsInImage m x) (infos.Set e) → (bit_at e.bits j == 1) ≡ are_paired m i j
+paired_set m x e i j b l k h = as_truth _ _
+    (λ t. from_image m x i j b ((h j).0 (eqb-true (bit_at e.bits j) 1 t)))
+    (λ t. eq-eqb (bit_at e.bits j) 1 ((h j).1 (into_image m x i j b l k t)))
+
+unpaired : (m : Relation) (x : sets.Elements) (i j : ℕ) → x.bits ≡ 2 ^ i → i < m.from.size → j < m.to.size
+    → (IsInImage m x j → ⊥) → false ≡ are_paired m i j
+unpaired m x i j b l k n = as_truth false _ (λ e. cc) (λ t. absurd (n (into_image m x i j b l k t)))
+
+pub paired_none : (m : Relation) (x : sets.Elements) (i j : ℕ) (r : Info) → x.bits ≡ 2 ^ i → i < m.from.size
+    → j < m.to.size → HoldsJust (IsInImage m x) r → ((e : sets.Elements) → r ≡ infos.Set e → ⊥)
+    → false ≡ are_paired m i j
+paired_none m x i j (infos.Set e) b l k h n = absurd (n e refl)
+paired_none m x i j infos.Nothing b l k h n =
+    let beyond : IsInImage m x m.to.size = (h m.to.size).0 tt in
+    absurd (omega (arith, beyond.2.second))
+paired_none m x i j (infos.Span s) b l k h n = unpaired m x i j b l k (λ p. (h j).1 p)
+paired_none m x i j (infos.Sym s) b l k h n = unpaired m x i j b l k (λ p. (h j).1 p)
+paired_none m x i j infos.Contradiction b l k h n = unpaired m x i j b l k (λ p. (h j).1 p)
 
 -- ---- what is made
 

@@ -3,7 +3,8 @@
 //! A pair supports each of its elements: whatever `x` is, `y` is paired with that, and the other
 //! way round. That is what is made of the cells, since where it is stated it leaves to each cell
 //! just the elements that are paired with one that is left to the other.
-ghost use Rattle.std.specs.Prelude.{◌≡◌, ◌<◌, ◌≤◌, IfOk, OnOk, IsTrue};
+ghost use Rattle.std.specs.Prelude.{◌≡◌, ◌<◌, ◌≤◌, ◌==◌, IfOk, OnOk, IsTrue};
+ghost use Rattle.std.specs.Int.{bit_at};
 ghost use Rattle.prop_terms.specs.declared.operators.Infix.TheVariants.{Comma, In};
 ghost use Rattle.prop_meaning.specs.Words.{are_paired};
 ghost use Rattle.prop_meaning.specs.inner.Drafts.{Has, IsSound, Grown, Makes, truth_kind};
@@ -41,6 +42,14 @@ pub(crate) fn side_kind(side: Side) -> Kinded
     }
 }
 
+/// Whether the bit is set.
+fn is_set(bits: u64, i: u8) -> bool
+    requires { i < 64 }
+    ensures { result ≡ (bit_at bits i == 1) }
+{
+    bits >> i & 1 == 1
+}
+
 /// Whether elements of the two domains are a pair.
 fn are_paired(relation: &Relation, i: u8, j: u8) -> bool
     requires first { i < relation.now.from.size }
@@ -48,10 +57,10 @@ fn are_paired(relation: &Relation, i: u8, j: u8) -> bool
     ensures { result ≡ are_paired relation.now i j }
 {
     let Some(single) = Elements::new(bit(i)) else {
-        return false;
+        unreachable!()
     };
     match relation.image(single) {
-        Info::Set(partners) => partners.bits() & bit(j) != 0,
+        Info::Set(partners) => is_set(partners.bits(), j),
         _ => false,
     }
 }
@@ -94,8 +103,8 @@ impl Link<'_> {
 
     /// Whether elements of the two sides are a pair.
     fn joins(self, i: u8, j: u8) -> bool
-        requires first { i < (first_side self.entry).size }
-        requires second { j < (second_side self.entry).size }
+        requires first { i < (first_side self).size }
+        requires second { j < (second_side self).size }
         ensures { result ≡ are_joined self.entry i j }
     {
         if self.turned {
@@ -122,7 +131,7 @@ fn or_partner<W: Words>(
     requires few { count ≤ (second_side link).size }
     ensures grown { OnOk result (Grown (W.lexicon words.now) made.old.items made.new.items) }
     ensures makes { IfOk result (Makes (W.lexicon words.now) made.new.items truth_kind
-        (λ a. any_partner (are_joined link start.0) count (a start.1) (a link.y))) }
+        (λ a. any_partner (are_joined link.entry start.0) count (a start.1) (a link.entry.y))) }
 {
     if count == 0 {
         return Ok(start.1);
@@ -149,7 +158,7 @@ fn supported<W: Words>(
     requires row { i < (first_side link).size }
     ensures grown { OnOk result (Grown (W.lexicon words.now) made.old.items made.new.items) }
     ensures makes { IfOk result (Makes (W.lexicon words.now) made.new.items truth_kind
-        (λ a. supported link i (a link.x) (a link.y))) }
+        (λ a. supported link.entry i (a link.entry.x) (a link.entry.y))) }
 {
     let element = element_at(words, made, side_kind(link.first()), i)?;
     let same = two(words, made, Pair::Same, link.x, element)?;
@@ -172,7 +181,7 @@ fn and_supported<W: Words>(
     requires few { count ≤ (first_side link).size }
     ensures grown { OnOk result (Grown (W.lexicon words.now) made.old.items made.new.items) }
     ensures makes { IfOk result (Makes (W.lexicon words.now) made.new.items truth_kind
-        (λ a. all_supported link count (a start) (a link.x) (a link.y))) }
+        (λ a. all_supported link.entry count (a start) (a link.entry.x) (a link.entry.y))) }
 {
     if count == 0 {
         return Ok(start);
