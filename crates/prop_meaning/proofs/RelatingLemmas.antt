@@ -409,19 +409,19 @@ makes_more lexicon link i count start b s place first second third is mb g ms h 
     (λ a. supported link i (a link.x) (a link.y)) b s place first second third mb g ms h m)
 
 -- a relation is said, forth and back
-pub makes_related : (lexicon : Lexicon) (forth back : Link) (m : Relation) (yes b place : ℕ)
+pub makes_related : (lexicon : Lexicon) (forth back : Link) (m : Relation) (start b place : ℕ)
     (first second third : List Made) → forth.relation.now ≡ m → back.relation.now ≡ m → forth.turned ≡ false
     → back.turned ≡ true → back.x ≡ forth.y → back.y ≡ forth.x
     → Has lexicon first forth.x (side_kind m.from) → Has lexicon first forth.y (side_kind m.to)
-    → Makes lexicon first truth_kind (λ a. Element 0) yes → Grown lexicon first second
-    → Makes lexicon second truth_kind (λ a. all_supported forth m.from.size (a yes) (a forth.x) (a forth.y)) b
+    → Makes lexicon first truth_kind (λ a. Element 0) start → Grown lexicon first second
+    → Makes lexicon second truth_kind (λ a. all_supported forth m.from.size (a start) (a forth.x) (a forth.y)) b
     → Grown lexicon second third
     → Makes lexicon third truth_kind (λ a. all_supported back m.to.size (a b) (a back.x) (a back.y)) place
     → Makes lexicon third truth_kind (λ a. related_point m (a forth.x) (a forth.y)) place
-makes_related lexicon forth back m yes b place first second third e f t u x y hx hy my g mb h made =
+makes_related lexicon forth back m start b place first second third e f t u x y hx hy my g mb h made =
     let g' = grown_trans lexicon first second third g h in
     let before = then_makes lexicon first second truth_kind truth_kind (λ a. Element 0)
-    (λ p a. all_supported forth m.from.size p (a forth.x) (a forth.y)) yes b my g mb in
+    (λ p a. all_supported forth m.from.size p (a forth.x) (a forth.y)) start b my g mb in
     let all = then_makes lexicon second third truth_kind truth_kind
     (λ a. all_supported forth m.from.size (Element 0) (a forth.x) (a forth.y))
     (λ p a. all_supported back m.to.size p (a back.x) (a back.y)) b place before h made in
@@ -453,23 +453,25 @@ only_below : (n : ℕ) (first second : ℕ → Bool) (i : ℕ) → i < n → ((k
     → any_below n (λ k. first k && second k) ≡ second i
 unfolding any_below
 only_below zero first second i l f = absurd (omega (arith, l))
-only_below (suc n) first second i l f = by (decided i n)
+only_below (suc n) first second i l f =
+    by (decided i n) (λ k. only_below n first second i k (λ k j. f k (omega (arith, j))))
   where
     less : (i < n) ⊎ (n < i) → i < n
     less (inl k) = k
     less (inr k) = absurd (omega (arith, l, k))
 
-    by : (i ≡ n) ⊎ ((i < n) ⊎ (n < i)) → ((first n && second n) || any_below n (λ k. first k && second k)) ≡ second i
-    by (inl e) =
+    by : (i ≡ n) ⊎ ((i < n) ⊎ (n < i)) → (i < n → any_below n (λ k. first k && second k) ≡ second i)
+        → ((first n && second n) || any_below n (λ k. first k && second k)) ≡ second i
+    by (inl e) more =
         let it : first n ≡ true = f n (omega arith) ∙ (ap (λ k. i == k) (sym e) ∙ same_test i) in
         let others = none_below n (λ k. first k && second k)
         (λ k j. ap (λ b. b && second k) (f k (omega (arith, j)) ∙ not_same i k (inr (omega (arith, j, e))))) in
         ap (λ b. (b && second n) || any_below n (λ k. first k && second k)) it
         ∙ (ap (λ b. second n || b) others ∙ (or_none (second n) ∙ ap second (sym e)))
-    by (inr o) =
+    by (inr o) more =
         ap (λ b. (b && second n) || any_below n (λ k. first k && second k))
         (f n (omega arith) ∙ not_same i n o)
-        ∙ only_below n first second i (less o) (λ k j. f k (omega (arith, j)))
+        ∙ more (less o)
 
 module _ (lexicon : Lexicon) (law : IsLexicon lexicon) (word : List ℕ) (m : Relation)
     (named : lexicon.relation word ≡ Some m)
