@@ -41,8 +41,9 @@ def swapped(line: str) -> str:
     return re.sub(r"\((\w+), (\w+)\) in before", r"(\2, \1) in before", line)
 
 
-CHANGES: tuple[Callable[[str], str], ...] = (bare, turned, weaker, swapped)
-SPOILS = {it.__name__: it for it in CHANGES}
+SPOILS: dict[str, Callable[[str], str]] = {
+    it.__name__: it for it in (bare, turned, weaker, swapped)
+}
 # What is answered in place of the program, and what in place of any of its refusals.
 ANSWERED = {"forgotten": DONE, "refused": WRONG_FORM}
 BLUNT = "blunt"

@@ -226,7 +226,10 @@ module _ (names : CellNames) (words : Vocabulary) (d : Data) (whole : Span) (dom
 
     pub names_alike : names_at (lexicon_in (seen names words d whole domains)) all
         ≡ names_at (lexicon_in (seen names words d whole domains)) points
-    names_alike = let lexicon = lexicon_in (seen names words d whole domains) in λ j. record { value = λ w. value_alike w j; related = (names_at lexicon points).related }
+    names_alike = λ j. record {
+      value = λ w. value_alike w j;
+      related = (names_at (lexicon_in (seen names words d whole domains)) points).related;
+    }
       where
         by : (w : List ℕ) (o : Option ℕ) → cond (is_utf8 w) (cell_named names w) None ≡ o
             → option_map_or (at all) o (Text w) ≡ option_map_or (at points) o (Text w)

@@ -17,5 +17,6 @@ use Rattle.prop_demands.specs.Naming.{names_in, value_in}
 -- in the span if it is a number.
 abbrev pub IsKnownIn : List Stored → State → Term → Kinded → Span → Type 0
 IsKnownIn library s t kinded span = (believed : Members) (points : ℕ → Point)
-    → Satisfy library s believed points → (p : Point) × IsPointOf kinded.kind kinded.size p × (kinded.kind ≡ kinds.Span → Holds (infos.Span span) p)
+    → Satisfy library s believed points → (p : Point) × IsPointOf kinded.kind kinded.size p
+    × (kinded.kind ≡ kinds.Span → Holds (infos.Span span) p)
     × (worth (names_in s points) t ≡ Some (value_in s kinded.kind p))
