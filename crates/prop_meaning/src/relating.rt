@@ -147,12 +147,7 @@ fn or_partner<W: Words>(
 }
 
 /// The cell of whether `x` is another element than `i`, or `y` is paired with that.
-fn supported<W: Words>(
-    words: &W,
-    made: &mut Vec<Made>,
-    link: Link<'_>,
-    i: u8,
-) -> Result<usize, Why>
+fn supported<W: Words>(words: &W, made: &mut Vec<Made>, link: Link<'_>, i: u8) -> Result<usize, Why>
     requires sound { IsSound (W.lexicon words.now) made.old.items }
     requires link { HasLink (W.lexicon words.now) made.old.items link }
     requires row { i < (first_side link).size }
