@@ -515,7 +515,7 @@ class Session:
             self.blame("what was refused has left something")
 
     def defined(self, draw: Draw, chance: Random) -> dict[str, Part]:
-        """Cells that are defined, of which those before may be parts. They are drawn from then on."""
+        """Cells that are defined; those before may be parts. They are drawn from then on."""
         parts: dict[str, Part] = {}
         for k in range(chance.randint(0, 2)):
             kind = chance.choice(sorted({"number", "truth", *draw.kinds.values()} - {"place"}))

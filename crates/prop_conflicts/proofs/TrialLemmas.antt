@@ -17,7 +17,8 @@ use Rattle.prop_facts.specs.declared.fact.Literal.{Literal}
 use Rattle.prop_deriving.specs.Known.{AreKnown, IsExcused, IsKnown}
 use Rattle.prop_solve.specs.Answers.{AsksTheSame, IsAnswer, IsFound, IsRefuted as IsRefutedBy}
 use Rattle.prop_solve.specs.Questions.{excused_then}
-use Rattle.prop_solve.specs.Searches.{IsProposed, IsSearch, Proposed, Search, bare}
+use Rattle.prop_spread.specs.Proposals.{IsProposed, Proposed}
+use Rattle.prop_solve.specs.Searches.{IsSearch, Search, bare}
 use Rattle.prop_solve.specs.declared.question.Goal.{Goal}
 use Rattle.prop_solve.specs.declared.question.Goal.TheVariants.{Any}
 use Rattle.prop_solve.specs.declared.solver.Answer.{Answer}

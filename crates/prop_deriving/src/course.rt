@@ -8,10 +8,14 @@ use std::alloc::{AllocError, Global};
 /// More halvings than it takes to find one of any row.
 const HALVINGS: usize = 64;
 
-/// For each place its entries, in order.
+/// So many entries are looked at from the end of a row before it is halved.
+const AT_THE_END: usize = 2;
+
+/// For each place its entries, in order, and what its values have by no premise.
 #[derive(Drop)]
 pub struct Course {
     rows: Vec<Vec<usize>>,
+    given: Vec<Info>,
 }
 
 /// Where a row of entries is parted in two.
@@ -40,8 +44,15 @@ impl Mark<'_> {
 
 /// How many entries of a row stand in the first part.
 fn count_first(row: &[usize], mark: Mark<'_>) -> usize {
-    let mut low = 0;
     let mut high = row.len();
+    // (that part mostly ends with one of the last)
+    for entry in row.iter().rev().take(AT_THE_END) {
+        if mark.is_behind(*entry) {
+            return high;
+        }
+        high = high.saturating_sub(1);
+    }
+    let mut low = 0;
     for _ in 0..HALVINGS {
         if low >= high {
             break;
@@ -56,13 +67,21 @@ fn count_first(row: &[usize], mark: Mark<'_>) -> usize {
 }
 
 impl Course {
-    /// No entry of so many places.
-    pub fn new(alloc: Global, places: usize) -> Result<Course, AllocError> {
-        let mut rows = Vec::with_capacity(alloc, places)?;
-        for _ in 0..places {
+    /// No entry of as many places as this is given of.
+    pub fn new(alloc: Global, given: Vec<Info>) -> Result<Course, AllocError> {
+        let mut rows = Vec::with_capacity(alloc, given.len())?;
+        for _ in 0..given.len() {
             rows.push(Vec::new(alloc))?;
         }
-        Ok(Course { rows })
+        Ok(Course { rows, given })
+    }
+
+    /// What the values of a place have by no premise; nothing where there is no such place.
+    pub(crate) fn given(&self, place: usize) -> Info {
+        match self.given.get(place) {
+            Some(info) => *info,
+            None => Info::Nothing,
+        }
     }
 
     /// The next entry is the place's.

@@ -477,6 +477,40 @@ impl Derivation {
             .by_barred_side(cells, basis.choices, at, barred, asked.rest)
     }
 
+    /// Drops those literals from one on that are so by no premise.
+    pub(crate) fn drop_given<R: Rule + Drop>(&mut self, basis: &Ground<'_, R>, from: usize)
+        requires kept { IsKept (stored_of R.value_of basis.now.network.now.library)
+            basis.now.network.now.cells }
+        ensures { Stays (stored_of R.value_of basis.now.network.now.library)
+            (attached_of basis.now.network.now.cells) basis.now.choices.now basis.now.root.now
+            basis.now.store.now self.old self.new }
+    {
+        let mut at = from;
+        for _ in from..self.nogood.literals().len() {
+            if !self.drop_one_given(basis, at) {
+                at = at.saturating_add(1);
+            }
+        }
+    }
+
+    /// Drops a literal that is so by no premise, and tells whether it did.
+    fn drop_one_given<R: Rule + Drop>(&mut self, basis: &Ground<'_, R>, at: usize) -> bool
+        requires kept { IsKept (stored_of R.value_of basis.now.network.now.library)
+            basis.now.network.now.cells }
+        ensures { Stays (stored_of R.value_of basis.now.network.now.library)
+            (attached_of basis.now.network.now.cells) basis.now.choices.now basis.now.root.now
+            basis.now.store.now self.old self.new }
+    {
+        let Some(literal) = self.literal(at) else {
+            return false;
+        };
+        // (what is kept of that is quicker to look at)
+        if !literal.fact.follows_from(basis.course.given(literal.place)) {
+            return false;
+        }
+        self.nogood.by_given(basis.network, at)
+    }
+
     /// What was so at the root: of every value, or by premises that are believed there.
     pub(crate) fn by_root<R: Rule + Drop>(
         &mut self,
@@ -513,7 +547,7 @@ fn arguments<R: Rule + Drop>(
         .collect(basis.alloc)
 }
 
-/// What every value of these cells has.
+/// What every value of these cells has by no premise.
 fn widest_arguments<R: Rule + Drop>(
     basis: &Ground<'_, R>,
     cells: &[usize],
@@ -522,7 +556,7 @@ fn widest_arguments<R: Rule + Drop>(
 {
     cells
         .iter()
-        .map(|cell| basis.widest(*cell))
+        .map(|cell| basis.course.given(*cell))
         .collect(basis.alloc)
 }
 

@@ -6,8 +6,6 @@ ghost use Rattle.prop_refuting.specs.Places.{kind_at_place};
 use crate::course::Course;
 use crate::sides::Sides;
 use prop_cells::Network;
-use prop_facts::widest;
-use prop_lattice::Info;
 use prop_learned::store::Store;
 use prop_premises::{Choice, Worldview};
 use prop_procedures::{Kinded, Rule};
@@ -36,13 +34,5 @@ impl<R: Rule + Drop> Ground<'_, R> {
             self.now.choices.now place }
     {
         kind_at_place(self.network.data(), self.choices, place)
-    }
-
-    /// The information that every value of a place has; nothing where there is no such place.
-    pub(crate) fn widest(&self, place: usize) -> Info {
-        match self.kind(place) {
-            Some(kind) => widest(kind.kind, kind.size),
-            None => Info::Nothing,
-        }
     }
 }

@@ -357,7 +357,7 @@ impl Learning {
         let Some(before) = self.explain(basis, at, weights)? else {
             return Ok(State::Failed);
         };
-        self.forget_maker(at);
+        self.drop_given(basis, at);
         self.find_makers(basis, before)?;
         Ok(State::Going)
     }
@@ -391,6 +391,19 @@ impl Learning {
     /// Why a literal is so; none where it was so at the root.
     fn reason(&self, trail: &Trail, at: usize) -> Option<Reason> {
         Reason::of_entry(trail, self.maker(at)?)
+    }
+
+    /// A literal went, and the last one stands in its place. Of those that came for it those go too
+    /// that are so by no premise.
+    fn drop_given<R: Rule + Drop>(&mut self, basis: &Ground<'_, R>, at: usize)
+        requires kept { IsKept (stored_of R.value_of basis.now.network.now.library)
+            basis.now.network.now.cells }
+        ensures { Stays (stored_of R.value_of basis.now.network.now.library)
+            (attached_of basis.now.network.now.cells) basis.now.choices.now basis.now.root.now
+            basis.now.store.now self.old self.new }
+    {
+        self.forget_maker(at);
+        self.derivation.drop_given(basis, self.since.len());
     }
 
     /// A literal went, and the last one stands in its place.

@@ -1,6 +1,6 @@
 -- What the steps of a derivation rest on.
 use Rattle.std.proofs.Common.{◌≡◌, ◌≢◌, ℕ, ◌<◌, Bool, true, false, List, [], ◌∷◌, ◌++◌, length, map}
-use Rattle.std.proofs.Common.{refl, sym, subst, ◌∙◌, arith, rules, All, Contains, Option, Some, None, slice_get}
+use Rattle.std.proofs.Common.{refl, sym, subst, ap, ◌∙◌, ◌||◌, arith, rules, All, Contains, Option, Some, None, slice_get}
 use Rattle.std.proofs.Common.{ℤ, pos, ◌≤ℤ◌, ◌+ℤ◌, neg_ℤ, if◌then◌else◌, IfSome, ◌⊎◌, inl, inr}
 use Rattle.std.specs.Prelude.{int_le}
 use Rattle.std.specs.List.{AllZip}
@@ -203,6 +203,22 @@ belief_narrows library d choices old new at came x v kept e l entails follows r 
     (record { fitting = kept.fits; within = kept.made.within }) fewer x.place v entails in
     let P : Point → Type 0 = λ q. IsSo x.fact q in
     subst P (sym (at_cell (attached_of d) points list x.place l)) (follows (points x.place) holds))
+
+none_more : (b : Bool) → b ≡ (b || false)
+none_more true = refl
+none_more false = refl
+
+-- the same of what is entailed by no premise
+pub given_narrows : (library : List Stored) (d : Data) (choices : List Choice) (old new : Nogood) (at : ℕ)
+    (x : Literal) (v : Info) → IsKept library d → slice_get old.literals at ≡ Some x → x.place < length d.kinds
+    → Entails (problem_of library (attached_of d)) (set_of []) x.place v
+    → ((p : Point) → Holds v p → IsSo x.fact p) → Replaces old at [] new
+    → Narrows library (attached_of d) choices old new
+given_narrows library d choices old new at x v kept e l entails follows r =
+    belief_narrows library d choices old new at [] x v kept e l entails follows (record {
+      literals = r.literals;
+      premises = λ q. ap (λ (l : List ℕ). set_of l q) r.premises ∙ none_more (set_of old.premises q);
+    })
 
 -- ---- a literal that every value of its place has, that another one has, or that an end and others have
 

@@ -1,10 +1,11 @@
 //! Facts that what is believed says.
 ghost use Rattle.std.specs.Prelude.{◌≡◌, ◌<◌, [], List, ℕ, length, true, false, Ok, OnErr};
+ghost use Rattle.std.specs.Bool.{OnFalse, OnTrue};
 ghost use Rattle.prop_numbers.specs.Sets.{IsPart, set_of};
 ghost use Rattle.prop_premises.specs.declared.choice.Choice.{Choice};
 ghost use Rattle.prop_procedures.specs.Kept.{stored_of};
 ghost use Rattle.prop_cells.specs.Data.{IsKept};
-ghost use Rattle.prop_refuting.specs.Nogoods.{Narrows, ReplacesUnder};
+ghost use Rattle.prop_refuting.specs.Nogoods.{Narrows, Replaces, ReplacesUnder};
 ghost use Rattle.prop_plans.specs.Held.{attached_of};
 
 use crate::nogood::Nogood;
@@ -44,5 +45,28 @@ impl Nogood {
         }
         self.replace_under(at, &[], &why.support)?;
         Ok(true)
+    }
+
+    /// Where what a cell holds by no premise says a literal's fact, the literal goes, the last one
+    /// stands in its place, and the answer is true. Otherwise nothing changes.
+    pub fn by_given<R: Rule + Drop>(&mut self, network: &Network<R>, at: usize) -> bool
+        requires at { at < length self.old.literals }
+        requires kept { IsKept (stored_of R.value_of network.now.library) network.now.cells }
+        ensures still { OnFalse result (self.new ≡ self.old) }
+        ensures step { OnTrue result (Replaces self.old at [] self.new) }
+        ensures narrows { (choices : List Choice)
+            → Narrows (stored_of R.value_of network.now.library) (attached_of network.now.cells)
+            choices self.old self.new }
+    {
+        let literal = self.literals()[at];
+        if literal.place >= network.cells() {
+            return false;
+        }
+        let given = network.belief(literal.place, &Worldview::empty(self.alloc()));
+        if !literal.fact.follows_from(given) {
+            return false;
+        }
+        self.drop_at(at);
+        true
     }
 }

@@ -25,7 +25,8 @@ use Rattle.prop_telling.specs.Listing.{SaysList}
 use Rattle.prop_notes.specs.Notes.{is_done}
 use Rattle.prop_telling.specs.Telling.{Told, telling, Own, TellsStep, DoesAsSession}
 use Rattle.prop_plans.specs.Plans.{IsUnderWay}
-use Rattle.prop_solve.specs.Searches.{Search, Proposed, IsSearch, IsProposed}
+use Rattle.prop_spread.specs.Proposals.{IsProposed, Proposed}
+use Rattle.prop_solve.specs.Searches.{Search, IsSearch}
 use Rattle.prop_solve.specs.declared.solver.Plan.{Plan as PlanOf}
 use Rattle.prop_solve.specs.declared.question.Goal.TheVariants.{Differing}
 use Rattle.prop_seeking.specs.Asking.{begins}

@@ -1,6 +1,6 @@
 -- What a search keeps.
 use Rattle.std.proofs.Common.{◌≡◌, ℕ, List, [], ◌∷◌, ◌++◌, ◌⊎◌, inl, inr, Option, Some, None, IfSome, All, Contains}
-use Rattle.std.proofs.Common.{subst, sym, refl, ap, ◌∙◌, arith, Bool, IsTrue, Result, Ok, Err, OnOk}
+use Rattle.std.proofs.Common.{subst, sym, refl, ap, ◌∙◌, arith, Bool, IsTrue}
 use Rattle.std.specs.List.{AllZip}
 use Rattle.std.proofs.lemmas.List.Elements.{Contains-append_left, Contains-append_right}
 use Rattle.prop_lattice.specs.declared.info.Info.{Info}
@@ -22,21 +22,13 @@ use Rattle.prop_refuting.proofs.PlaceLemmas.{place_in_range}
 use Rattle.prop_learned.specs.Stores.{IsKeptIn}
 use Rattle.prop_deriving.specs.Known.{AreKnown, Follows, IsExcused, IsKnown, Stays}
 use Rattle.prop_deriving.specs.laws.Keeping.{known_excused}
+use Rattle.prop_spread.specs.Proposals.{IsProposed, Proposed}
+use Rattle.prop_spread.specs.Spreads.{Spread}
 use Rattle.prop_solve.specs.Answers.{AsksTheSame, IsFound, IsRefuted}
 use Rattle.prop_solve.specs.Questions.{AreExcusing, Grow, Imply, excused_then}
 use Rattle.prop_solve.specs.declared.question.Goal.{Goal}
 use Rattle.prop_solve.specs.declared.question.Goal.TheVariants.{Any, Least, Greatest, Differing}
-use Rattle.prop_solve.specs.Searches.{IsProposed, IsSearch, Proposed, Search, Spread, bare}
-
--- ---- where memory may be refused
-
-pub on_ok : {T E : Type 0} (r : Result T E) (A : Type 0) → A → OnOk r A
-on_ok (Ok x) A a = a
-on_ok (Err e) A a = tt
-
-pub on_ok_more : {T E : Type 0} (r : Result T E) (A B : Type 0) → (A → B) → OnOk r A → OnOk r B
-on_ok_more (Ok x) A B f a = f a
-on_ok_more (Err e) A B f a = tt
+use Rattle.prop_solve.specs.Searches.{IsSearch, Search, bare}
 
 -- ---- lists of two types
 

@@ -1,5 +1,5 @@
 -- What a search answers.
-use Rattle.std.specs.Prelude.{◌≡◌, ◌<◌, ℕ, List, Option, Some, None, length}
+use Rattle.std.specs.Prelude.{◌≡◌, ℕ, List, Option, Some, None}
 use Rattle.prop_lattice.specs.Points.{Point}
 use Rattle.prop_lattice.specs.declared.info.Info.{Info}
 use Rattle.prop_numbers.specs.Sets.{set_of, IsPart}
@@ -10,9 +10,9 @@ use Rattle.prop_cells.specs.Data.{Data}
 use Rattle.prop_cells.specs.Points.{ArePoints}
 use Rattle.prop_facts.specs.declared.fact.Literal.{Literal}
 use Rattle.prop_plans.specs.Held.{AreHeld, attached_of}
-use Rattle.prop_plans.specs.Plans.{Satisfy, value_in}
-use Rattle.prop_points.specs.Singles.{IsSingle}
+use Rattle.prop_plans.specs.Plans.{Satisfy}
 use Rattle.prop_deriving.specs.Known.{IsExcused}
+use Rattle.prop_spread.specs.Proposals.{AreSingle}
 use Rattle.prop_solve.specs.Questions.{AreExcusing, excused_then}
 use Rattle.prop_solve.specs.Searches.{Search}
 use Rattle.prop_solve.specs.declared.solver.Answer.{Answer}
@@ -22,11 +22,6 @@ use Rattle.prop_solve.specs.declared.solver.Answer.TheVariants.{Found, Refuted, 
 pub record AsksTheSame (old new : Search) : Type 0 where
   pub goal : new.goal ≡ old.goal
   pub named : new.named ≡ old.named
-
--- the value of each cell leaves a single point
-abbrev pub AreSingle : Data → List Info → Type 0
-AreSingle d values = (points : ℕ → Point)
-    × ((cell : ℕ) → cell < length d.kinds → IsSingle (value_in values cell) (points cell))
 
 -- What is so of a plan that is found: a side of each choice, and a value of each cell that leaves a
 -- single point. The points satisfy all that is stated under what is believed with these sides, and

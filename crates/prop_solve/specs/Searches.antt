@@ -1,28 +1,16 @@
 -- A search under way, and what is known of it.
 use Rattle.std.specs.Prelude.{ℕ, List, [], Option, IfSome}
-use Rattle.prop_numbers.specs.Sets.{set_of, IsPart, IsSame}
-use Rattle.prop_premises.specs.ChoiceLists.{IsChoiceList, worldview}
+use Rattle.prop_numbers.specs.Sets.{set_of, IsPart}
 use Rattle.prop_premises.specs.Origins.{Origin, choices_of, believed_in}
 use Rattle.prop_procedures.specs.Stored.{Stored}
 use Rattle.prop_cells.specs.Data.{Data}
 use Rattle.prop_facts.specs.declared.fact.Literal.{Literal}
 use Rattle.prop_plans.specs.Held.{attached_of}
-use Rattle.prop_plans.specs.Plans.{Checked, IsUnderWay}
 use Rattle.prop_refuting.specs.Nogoods.{Nogood}
 use Rattle.prop_deriving.specs.Known.{IsKnown, AreKnown}
+use Rattle.prop_spread.specs.Proposals.{IsProposed, Proposed}
+use Rattle.prop_spread.specs.Spreads.{Spread}
 use Rattle.prop_solve.specs.declared.question.Goal.{Goal}
-
--- a plan that is looked at: its check, a side of each choice, and what is believed with these
-pub record Proposed : Type 0 where
-  pub check : Checked
-  pub sides : List ℕ
-  pub view : List ℕ
-
--- what a search draws on: the nogoods that are kept, and what is believed at the root, where no
--- side is believed
-pub record Spread : Type 0 where
-  pub nogoods : List (Option Nogood)
-  pub root : List ℕ
 
 -- A search: its goal and the cells that are named, what is excused by now, what it draws on, the
 -- nogood that it learns, the plan that it looks at, and the premises that it has refuted.
@@ -34,13 +22,6 @@ pub record Search : Type 0 where
   pub learning : Option Nogood
   pub proposal : Option Proposed
   pub refuted : Option (List ℕ)
-
--- the plan has a side of each choice, and what its check knows is so
-pub record IsProposed (library : List Stored) (d : Data) (premises : List Origin) (p : Proposed)
-    : Type 0 where
-  pub sides : IsChoiceList (choices_of premises) p.sides
-  pub view : IsSame (set_of p.view) (worldview (believed_in premises) (choices_of premises) p.sides)
-  pub under_way : IsUnderWay library d p.check
 
 -- the nogood without facts that rests on these premises
 abbrev pub bare : List ℕ → Nogood

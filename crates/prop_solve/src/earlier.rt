@@ -1,16 +1,13 @@
 //! What a search leaves to later ones, and what a later one takes up of it.
 
-ghost use Rattle.std.specs.Prelude.{◌≡◌, ◌⊎◌, ◌<◌, ◌++◌, [], All, IfOk, IfSome, OnOk, List, map};
-ghost use Rattle.std.specs.Prelude.{MatchOption, length};
+ghost use Rattle.std.specs.Prelude.{◌≡◌, ◌<◌, ◌++◌, IfOk, IfSome, OnOk, List, map};
+ghost use Rattle.std.specs.Prelude.{length};
 ghost use Rattle.prop_numbers.specs.Sets.{set_of};
 ghost use Rattle.prop_premises.specs.Origins.{Origin, believed_in, choices_of};
 ghost use Rattle.prop_procedures.specs.Kept.{AllMean, stored_of};
 ghost use Rattle.prop_procedures.specs.Stored.{Stored};
 ghost use Rattle.prop_cells.specs.Data.{Data};
 ghost use Rattle.prop_plans.specs.Held.{attached_of};
-ghost use Rattle.prop_refuting.specs.Nogoods.{Nogood as NogoodOf};
-ghost use Rattle.prop_learned.specs.Stores.{IsKeptAt, IsKeptIn};
-ghost use Rattle.prop_deriving.specs.Known.{IsKnown};
 ghost use Rattle.prop_lessons.specs.Lessons.{AreTaught};
 ghost use Rattle.prop_solve.specs.Leaving.{AreApart, IsOf, IsUnexcused, NarrowsAll, Recalls};
 ghost use Rattle.prop_solve.specs.Leaving.{Teaches};
@@ -18,16 +15,13 @@ ghost use Rattle.prop_solve.specs.Searches.{IsSearch};
 ghost use Rattle.prop_solve.specs.Answers.{AsksTheSame};
 
 use crate::solver::Solver;
-use crate::spread::{SHORT, Spread, Unit};
 use prop_cells::Network;
 use prop_facts::Literal;
 use prop_guards::Guarded;
 use prop_lattice::Info;
-use prop_learned::is_so;
 use prop_lessons::{Lessons, Past};
 use prop_premises::Premises;
 use prop_refuting::Nogood;
-use prop_trail::Trail;
 use std::alloc::{AllocError, Global};
 use std::marker::Model;
 
@@ -48,20 +42,6 @@ impl Model for Earlier {
     ghost Value = { Taught };
 
     ghost view = { λ e. e.lessons };
-}
-
-/// The numbers of the first two literals that aren't so.
-fn first_open(trail: &Trail, literals: &[Literal]) -> (Option<usize>, Option<usize>) {
-    let mut first = None;
-    for (at, literal) in literals.iter().enumerate() {
-        if !is_so(trail, *literal) {
-            if first.is_some() {
-                return (first, Some(at));
-            }
-            first = Some(at);
-        }
-    }
-    (first, None)
 }
 
 /// The nogood with more facts, without those that others imply.
@@ -146,44 +126,6 @@ fn unexcused(alloc: Global, excuses: &[Vec<Literal>]) -> Result<Option<Vec<Liter
         [] => Ok(Some(Vec::new(alloc))),
         [only] => denied(alloc, only),
         _ => Ok(None),
-    }
-}
-
-impl Spread {
-    /// These values are tried first.
-    pub(crate) fn expect(&mut self, values: &[Info])
-        ensures same { self.new ≡ self.old }
-    {
-        self.present.expect(values);
-    }
-
-    /// The nogood with this number.
-    fn nogood(&self, number: usize) -> Option<&Nogood>
-        ensures { MatchOption result ((g : NogoodOf) → IsKeptAt self.now.nogoods number g → ⊥)
-            (λ g. IsKeptAt self.now.nogoods number g.now) }
-    {
-        self.store.nogood(number)
-    }
-
-    /// Keeps a nogood that was learned before, where nothing was supposed yet. It is watched at two
-    /// literals that aren't so, and denies the only one by itself.
-    pub(crate) fn recall(&mut self, nogood: Nogood) -> Result<(), AllocError>
-        ensures root { self.new.root ≡ self.old.root }
-        ensures kept { OnOk result ((g : NogoodOf) → IsKeptIn self.new.nogoods g
-            → IsKeptIn self.old.nogoods g ⊎ (g ≡ nogood)) }
-    {
-        let (first, second) = first_open(&self.trail, nogood.literals());
-        let at = first.unwrap_or(0);
-        let Some(literal) = nogood.literals().get(at) else {
-            return Ok(());
-        };
-        let literal = *literal;
-        let stays = second.is_none() || nogood.literals().len() <= SHORT;
-        let number = self.store.add(nogood, (at, second.unwrap_or(at)), stays)?;
-        if second.is_none() {
-            self.units.push(Unit { literal, number })?;
-        }
-        Ok(())
     }
 }
 

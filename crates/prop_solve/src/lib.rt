@@ -3,24 +3,18 @@
 //! A question (`Question`) asks for some points, for the least or the greatest that a number can
 //! be, or for points that differ at named cells. A search (`Solver`) goes on for so many steps at a
 //! time and answers a plan, that nothing else fits with the premises on which that rests, or that
-//! it is unsettled by then. However it chooses, a plan was looked at by a check of its own
-//! (prop_plans), and what it refutes was derived by steps each of which was tested (prop_deriving).
-//! What it learned it leaves to later searches (`Earlier`), which take up what still holds.
+//! it is unsettled by then. What it supposes is spread step by step (prop_spread). However it
+//! chooses, a plan was looked at by a check of its own (prop_plans), and what it refutes was derived
+//! by steps each of which was tested (prop_deriving). What it learned it leaves to later searches
+//! (`Earlier`), which take up what still holds.
 #![tactic(auto)]
 
 pub mod bound;
-mod choosing;
 pub mod earlier;
-mod gate;
-mod heeding;
 pub mod news;
 mod pace;
-mod present;
-mod proposal;
 pub mod question;
 pub mod solver;
-mod spread;
-mod wiring;
 
 pub use bound::Bound;
 pub use earlier::Earlier;

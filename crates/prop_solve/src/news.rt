@@ -39,7 +39,7 @@ pub enum News {
 impl Solver {
     /// All that was done so far.
     pub fn all_done(&self) -> Told {
-        let trail = &self.spread().trail;
+        let trail = self.spread().trail();
         Told {
             steps: self.tally().steps,
             learned: self.tally().learned,
@@ -91,7 +91,7 @@ impl Solver {
 
     /// What was said by this entry.
     fn said(&self, at: usize) -> Option<News> {
-        let trail = &self.spread().trail;
+        let trail = self.spread().trail();
         if at >= trail.len() {
             return None;
         }
@@ -106,11 +106,11 @@ impl Solver {
 
     /// The nogood with this number, where it is kept.
     pub fn nogood(&self, number: usize) -> Option<&Nogood> {
-        self.spread().store.nogood(number)
+        self.spread().nogood(number)
     }
 
     /// The statement under a side with this number.
     pub fn sided(&self, number: usize) -> Option<Sided> {
-        self.spread().sides.get(number).copied()
+        self.spread().sided(number)
     }
 }

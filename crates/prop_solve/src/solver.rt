@@ -8,36 +8,27 @@ ghost use Rattle.prop_procedures.specs.Kept.{AllMean, stored_of};
 ghost use Rattle.prop_cells.specs.Data.{IsKept};
 ghost use Rattle.prop_plans.specs.Held.{attached_of};
 ghost use Rattle.prop_plans.specs.Plans.{Satisfy};
-ghost use Rattle.prop_refuting.specs.Nogoods.{Nogood as NogoodOf};
-ghost use Rattle.prop_learned.specs.Stores.{IsKeptIn};
 ghost use Rattle.prop_deriving.specs.Known.{IsKnown};
 ghost use Rattle.prop_lessons.specs.Lessons.{AreTaught};
 ghost use Rattle.prop_solve.specs.Questions.{AreExcusing, Grow, Imply, excused_then};
 ghost use Rattle.prop_solve.specs.Questions.{is_optimum};
-ghost use Rattle.prop_solve.specs.Searches.{IsSearch, IsProposed, Search, bare};
-ghost use Rattle.prop_solve.specs.Answers.{AreSingle, AsksTheSame, IsAnswer, IsFound, IfFound};
+ghost use Rattle.prop_spread.specs.Proposals.{AreSingle, IsProposed};
+ghost use Rattle.prop_solve.specs.Searches.{IsSearch, Search, bare};
+ghost use Rattle.prop_solve.specs.Answers.{AsksTheSame, IsAnswer, IsFound, IfFound};
 
-use crate::choosing::First;
 use crate::earlier::Earlier;
 use crate::pace::Pace;
-use crate::present::Present;
-use crate::proposal::Proposal;
 use crate::question::{Goal, Question};
-use crate::spread::{Lesson, Quiet, Spread};
-use crate::wiring::Wiring;
-use prop_cells::{Cells, Network};
+use prop_cells::Network;
 use prop_deriving::learning::{Learning, State};
-use prop_deriving::sides::Sides;
-use prop_facts::{Fact, Literal, widest};
+use prop_facts::{Fact, Literal};
 use prop_guards::Guarded;
-use prop_lattice::{Info, Kind, Partial};
-use prop_learned::store::Store;
+use prop_lattice::Info;
 use prop_learned::weights::Weights;
 use prop_plans::Verdict;
-use prop_premises::{Choice, Premise, PremiseSet, Premises, Worldview};
-use prop_procedures::Rule;
-use prop_refuting::{Nogood, excused, kind_at_place};
-use prop_trail::{Trail, Waiting};
+use prop_premises::{Premise, PremiseSet, Premises, Worldview};
+use prop_refuting::{Nogood, excused};
+use prop_spread::{First, Lesson, Proposal, Quiet, Spread};
 use std::alloc::{AllocError, Global};
 use std::marker::Model;
 
@@ -116,113 +107,6 @@ fn root_of(alloc: Global, premises: &Premises) -> Result<Worldview, AllocError>
     Ok(root)
 }
 
-/// What is believed of each place at the root: of a cell what its premises say, of a choice that it
-/// takes some side.
-fn beliefs<R: Rule + Drop>(
-    alloc: Global,
-    network: &Network<R>,
-    choices: &[Choice],
-    root: &Worldview,
-) -> Result<Vec<Info>, AllocError> {
-    let mut beliefs = Vec::new(alloc);
-    for cell in 0..network.cells() {
-        let kind = network.data().kind(cell);
-        let all = widest(kind.kind, kind.size);
-        beliefs.push(network.belief(cell, root).merge(all))?;
-    }
-    for choice in choices {
-        beliefs.push(widest(Kind::Set(0), choice.sides))?;
-    }
-    Ok(beliefs)
-}
-
-/// How many elements each place may have.
-fn sizes(alloc: Global, cells: &Cells, choices: &[Choice]) -> Result<Vec<u8>, AllocError> {
-    let mut sizes = Vec::new(alloc);
-    for cell in 0..cells.len() {
-        sizes.push(cells.kind(cell).size)?;
-    }
-    for choice in choices {
-        sizes.push(choice.sides)?;
-    }
-    Ok(sizes)
-}
-
-/// Of each instance whether a call of it is dear.
-fn dear<R: Guarded + Drop>(alloc: Global, network: &Network<R>) -> Result<Vec<bool>, AllocError> {
-    let mut dear = Vec::new(alloc);
-    for instance in 0..network.instances() {
-        let x = network.data().instance(instance);
-        let count = x.inputs().len();
-        let is_dear = match x.procedure() < network.library().len() {
-            true => network.library().get(x.procedure()).rule().is_dear(count),
-            false => false,
-        };
-        dear.push(is_dear)?;
-    }
-    Ok(dear)
-}
-
-/// What is woken where a place of the trail changes, and what waits: everything is to be called.
-fn woken<R: Guarded + Drop>(
-    alloc: Global,
-    network: &Network<R>,
-    trail: &Trail,
-) -> Result<(Wiring, Waiting), AllocError> {
-    let dear = dear(alloc, network)?;
-    let mut waiting = Waiting::new(alloc, dear)?;
-    waiting.wake_all();
-    let wiring = Wiring::new(alloc, network, trail)?;
-    Ok((wiring, waiting))
-}
-
-/// How many elements each of so many places may have, and a store of no nogoods about them.
-fn room_for<R: Rule + Drop>(
-    alloc: Global,
-    network: &Network<R>,
-    choices: &[Choice],
-    places: usize,
-) -> Result<(Vec<u8>, Store), AllocError>
-    ensures nogoods { IfOk result (λ made. (g : NogoodOf) → IsKeptIn made.1 g → ⊥) }
-{
-    let sizes = sizes(alloc, network.data(), choices)?;
-    let store = Store::new(alloc, places)?;
-    Ok((sizes, store))
-}
-
-/// Everything is to be called.
-fn spread_of<R: Guarded + Drop>(
-    alloc: Global,
-    network: &Network<R>,
-    choices: &[Choice],
-    root: Worldview,
-) -> Result<Spread, AllocError>
-    ensures nogoods { IfOk result (λ s. (g : NogoodOf) → IsKeptIn s.nogoods g → ⊥) }
-    ensures root { IfOk result (λ s. s.root ≡ root) }
-{
-    let sides = Sides::new(alloc, network, choices)?;
-    let beliefs = beliefs(alloc, network, choices, &root)?;
-    let (sizes, store) = room_for(alloc, network, choices, beliefs.len())?;
-    let present = Present::new(alloc, &beliefs)?;
-    let trail = Trail::new(alloc, beliefs)?;
-    let (wiring, waiting) = woken(alloc, network, &trail)?;
-    Ok(Spread {
-        alloc,
-        root,
-        sides,
-        trail,
-        present,
-        wiring,
-        waiting,
-        store,
-        sizes,
-        clash: None,
-        units: Vec::new(alloc),
-        seen: 0,
-        denied: 0,
-    })
-}
-
 impl Model for Solver {
     ghost use Rattle.std.specs.Prelude.{map};
     ghost use Rattle.prop_solve.specs.Searches.{Search};
@@ -261,7 +145,7 @@ impl Solver {
         ensures excuses { IfOk result (λ s. s.excuses ≡ []) }
     {
         let root = root_of(alloc, premises)?;
-        let spread = spread_of(alloc, network, premises.choices(), root)?;
+        let spread = Spread::new(alloc, network, premises.choices(), root)?;
         let mut solver = Solver::unbegun(alloc, spread, question)?;
         match solver.start(network, premises, earlier) {
             Ok(()) => Ok(solver),
@@ -787,7 +671,7 @@ impl Solver {
             self.old plan.values.items plan.sides.items self.new)
             (self.new.excuses ≡ self.old.excuses)) }
     {
-        let values = Vec::from_slice(self.spread.alloc(), proposal.check.values())?;
+        let values = Vec::from_slice(self.spread.alloc(), proposal.values())?;
         if !self.excuse_values(network, premises, &values)? {
             return Ok(None);
         }

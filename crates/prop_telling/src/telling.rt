@@ -6,7 +6,7 @@ ghost use Rattle.prop_notes.specs.Notes.{is_done};
 use crate::asking::{is_how, is_list, is_step, may_declare};
 use prop_amb::{Move, Step};
 use prop_engine::Reply;
-use prop_language::read_line;
+use prop_language::{Command, read_line};
 use prop_lattice::Info;
 use prop_notes::{Note, Notes, call_text, cell_text, moved_text, sides_text};
 use prop_premises::{PremiseSet, Worldview};
@@ -50,8 +50,12 @@ impl<R: Rule + Drop, O: Order + Drop> Teller<R, O> {
     ghost use Rattle.prop_notes.specs.Notes.{no_notes, note_read};
     ghost use Rattle.prop_telling.specs.Asking.{may_declare};
     ghost use Rattle.prop_workbench.specs.Loading.{Loads};
-    ghost use Rattle.prop_language.specs.Said.{words};
-    ghost use Rattle.prop_language.specs.Reading.{AsRead};
+    ghost use Rattle.std.specs.Prelude.{Err};
+    ghost use Rattle.prop_refusals.specs.declared.refusal.Refusal.TheVariants.{Memory};
+    ghost use Rattle.prop_language.specs.Said.{KeepsWords, Reads, words};
+    ghost use Rattle.prop_language.specs.Tokens.{tokens};
+    ghost use Rattle.prop_language.specs.inner.Lines.{without_return};
+    ghost use Rattle.prop_language.specs.Reading.{AsRead, IsReading};
     ghost use Rattle.std.specs.Option.{option_map};
 
     /// A teller of a session.
@@ -108,11 +112,35 @@ impl<R: Rule + Drop, O: Order + Drop> Teller<R, O> {
             (standing_of self.old.session) line.now (answer_of result)
             (standing_of self.new.session) }
     {
-        self.session.command(line)
+        let read = read_line(self.session.alloc(), line);
+        self.pass_read(line, read)
     }
 
-    /// What a line declares, if it is carried out.
-    fn note(&self, line: &[u8]) -> Result<Option<Note>, AllocError>
+    /// The same of a line that was read already.
+    fn pass_read(&mut self, line: &[u8], read: Result<Command<'_>, Refusal>) -> Reply
+        requires means { IsMeant R.value_of self.old.session }
+        requires sound { IsSound R.value_of self.old.session }
+        requires read { Reads read (IsReading line.now) }
+        requires memory { (read ≡ Err Memory) → KeepsWords (tokens (without_return line.now)) }
+        ensures same { self.new.session.live.network.library
+            ≡ self.old.session.live.network.library }
+        ensures sound { IsSound R.value_of self.new.session }
+        ensures notes { self.new.notes ≡ self.old.notes }
+        ensures works { Works O.picks (library_of R.value_of self.old.session)
+            (standing_of self.old.session) line.now (answer_of result)
+            (standing_of self.new.session) }
+    {
+        self.session.command_read(line, read)
+    }
+
+    /// What a line declares that was read already, if it is carried out.
+    fn note(
+        &self,
+        line: &[u8],
+        read: &Result<Command<'_>, Refusal>,
+    ) -> Result<Option<Note>, AllocError>
+        requires read { Reads read.now (IsReading line.now) }
+        requires memory { (read.now ≡ Err Memory) → KeepsWords (tokens (without_return line.now)) }
         ensures ok { IfOk result (λ note. AsRead line.now (λ read. option_map note_value note
             ≡ note_read self.now.notes (length self.now.session.live.network.cells.kinds)
             (length self.now.session.live.network.cells.instances) read)) }
@@ -120,10 +148,10 @@ impl<R: Rule + Drop, O: Order + Drop> Teller<R, O> {
     {
         let alloc = self.session.alloc();
         let network = self.session.live().network();
-        match read_line(alloc, line) {
+        match read {
             Ok(command) => {
                 let (cells, instances) = (network.cells(), network.instances());
-                self.notes.note_of(alloc, &command, cells, instances)
+                self.notes.note_of(alloc, command, cells, instances)
             }
             Err(refusal) => match refusal {
                 Refusal::Memory => Err(AllocError),
@@ -143,17 +171,25 @@ impl<R: Rule + Drop, O: Order + Drop> Teller<R, O> {
         ensures does { DoesAsSession O.picks (library_of R.value_of self.old.session)
             (told_of self.old) line.now (answer_of result) (told_of self.new) }
     {
-        match self.note(line) {
-            Ok(Some(note)) => self.declare_noted(line, note),
-            Ok(None) => self.pass(line),
+        let read = read_line(self.session.alloc(), line);
+        match self.note(line, &read) {
+            Ok(Some(note)) => self.declare_noted(line, read, note),
+            Ok(None) => self.pass_read(line, read),
             Err(AllocError) => Reply::Refused(Refusal::Memory),
         }
     }
 
-    /// Carries out a line as its session does, which declares this.
-    fn declare_noted(&mut self, line: &[u8], note: Note) -> Reply
+    /// Carries out a line as its session does, which was read already and declares this.
+    fn declare_noted(
+        &mut self,
+        line: &[u8],
+        read: Result<Command<'_>, Refusal>,
+        note: Note,
+    ) -> Reply
         requires means { IsMeant R.value_of self.old.session }
         requires sound { IsSound R.value_of self.old.session }
+        requires read { Reads read (IsReading line.now) }
+        requires memory { (read ≡ Err Memory) → KeepsWords (tokens (without_return line.now)) }
         requires may { may_declare line.now ≡ true }
         requires noted { AsRead line.now (λ read. Some (note_value note)
             ≡ note_read self.old.notes (length self.old.session.live.network.cells.kinds)
@@ -167,7 +203,7 @@ impl<R: Rule + Drop, O: Order + Drop> Teller<R, O> {
         let (domains, definitions, uses) = self.notes.counts();
         match self.notes.add(note) {
             Ok(()) => {
-                let reply = self.pass(line);
+                let reply = self.pass_read(line, read);
                 if !is_done(&reply) {
                     self.notes.back(domains, definitions, uses);
                 }

@@ -1,4 +1,4 @@
-use Rattle.std.proofs.Common.{[], ◌≡◌, ◌∷◌, ◌<◌, ℕ, List, Option, IfSome, Some, arith}
+use Rattle.std.proofs.Common.{[], ◌≡◌, ◌∷◌, ◌<◌, ℕ, Option, IfSome, Some, arith}
 use Rattle.std.proofs.Common.{length, refl, slice_get, subst, sym}
 use Rattle.prop_procedures.specs.Kept.{stored_of}
 use Rattle.prop_plans.specs.Held.{attached_of}

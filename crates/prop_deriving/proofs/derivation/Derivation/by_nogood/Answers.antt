@@ -1,4 +1,4 @@
-use Rattle.std.proofs.Common.{◌≡◌, ◌<◌, ◌∙◌, ℕ, Ok, Some, ap, length, slice_get, subst, sym}
+use Rattle.std.proofs.Common.{◌≡◌, ◌<◌, ℕ, Some, length, slice_get, subst, sym}
 use Rattle.prop_procedures.specs.Kept.{stored_of}
 use Rattle.prop_plans.specs.Held.{attached_of}
 use Rattle.prop_refuting.specs.Nogoods.{Nogood}

@@ -1,6 +1,6 @@
 use Rattle.prop_procedures.specs.Kept.{stored_of}
 use Rattle.prop_plans.specs.Held.{attached_of}
-use Rattle.prop_deriving.proofs.StayLemmas.{stays_along, stays_from}
+use Rattle.prop_deriving.proofs.StayLemmas.{stays_along}
 use Rattle.prop_deriving.proofs.learning.Learning.resolve.Goals as goal
 
 pub returns-in_err-find_makers : goal.returns-in_err-find_makers
@@ -13,7 +13,7 @@ returns-in_err-find_makers g c =
     let slots = basis.store.now in
     let made = c.find_makers.new.self in
     stays_along library n choices root slots c.args.self.now c.explain.new.self made c.explain.ensures
-    (stays_from library n choices root slots c.explain.new.self c.forget_maker.new.self made c.forget_maker.ensures
+    (stays_along library n choices root slots c.explain.new.self c.drop_given.new.self made c.drop_given.ensures
     (c.find_makers.ensures library n choices root slots))
 
 pub returns : goal.returns
@@ -26,5 +26,5 @@ returns g c =
     let slots = basis.store.now in
     let made = c.find_makers.new.self in
     stays_along library n choices root slots c.args.self.now c.explain.new.self made c.explain.ensures
-    (stays_from library n choices root slots c.explain.new.self c.forget_maker.new.self made c.forget_maker.ensures
+    (stays_along library n choices root slots c.explain.new.self c.drop_given.new.self made c.drop_given.ensures
     (c.find_makers.ensures library n choices root slots))

@@ -1,7 +1,8 @@
 use Rattle.std.proofs.Common.{inl, subst, sym}
 use Rattle.prop_procedures.specs.Kept.{stored_of}
 use Rattle.prop_solve.specs.Searches.{IsSearch}
-use Rattle.prop_solve.proofs.SearchLemmas.{all_proposed, on_ok_more, with_nogoods, with_proposal}
+use Rattle.prop_spread.proofs.Refusals.{on_ok_more}
+use Rattle.prop_solve.proofs.SearchLemmas.{all_proposed, with_nogoods, with_proposal}
 use Rattle.prop_solve.proofs.solver.Solver.decide.Goals as goal
 
 pub returns-then-level-gt0-clause-search : goal.returns-then-level-gt0-clause-search

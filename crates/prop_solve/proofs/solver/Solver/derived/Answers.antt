@@ -4,7 +4,7 @@ use Rattle.prop_procedures.specs.Kept.{stored_of}
 use Rattle.prop_plans.specs.Held.{attached_of}
 use Rattle.prop_refuting.specs.Nogoods.{Nogood}
 use Rattle.prop_deriving.proofs.StayLemmas.{follows_some}
-use Rattle.prop_solve.specs.Searches.{Spread}
+use Rattle.prop_spread.specs.Spreads.{Spread}
 use Rattle.prop_solve.proofs.SearchLemmas.{Known, stays_known}
 use Rattle.prop_solve.proofs.solver.Solver.derived.Goals as goal
 

@@ -2,7 +2,7 @@ use Rattle.std.proofs.Common.{◌∙◌, inl, inr, ap, subst}
 use Rattle.prop_learned.specs.Stores.{IsKeptIn}
 use Rattle.prop_solve.specs.Searches.{Search}
 use Rattle.prop_solve.proofs.EarlierLemmas.{refuted_yet}
-use Rattle.prop_solve.proofs.SearchLemmas.{on_ok_more}
+use Rattle.prop_spread.proofs.Refusals.{on_ok_more}
 use Rattle.prop_solve.proofs.solver.Solver.recall.Goals as goal
 
 pub returns : goal.returns

@@ -2,7 +2,8 @@ use Rattle.std.proofs.Common.{inl, inr, map, subst, sym}
 use Rattle.prop_procedures.specs.Kept.{stored_of}
 use Rattle.prop_refuting.specs.Nogoods.{Nogood}
 use Rattle.prop_solve.specs.Searches.{IsSearch, Search}
-use Rattle.prop_solve.proofs.SearchLemmas.{Known, on_ok_more, refuted_known, with_nogoods, with_refuted}
+use Rattle.prop_spread.proofs.Refusals.{on_ok_more}
+use Rattle.prop_solve.proofs.SearchLemmas.{Known, refuted_known, with_nogoods, with_refuted}
 use Rattle.prop_solve.proofs.solver.Solver.take_in.Goals as goal
 
 pub returns-in_default-clause-search : goal.returns-in_default-clause-search

@@ -2,7 +2,7 @@ use Rattle.std.proofs.Common.{subst}
 use Rattle.prop_learned.specs.Stores.{IsKeptIn}
 use Rattle.prop_solve.specs.Searches.{Search}
 use Rattle.prop_solve.proofs.EarlierLemmas.{kept_in, kept_never, teaches_one}
-use Rattle.prop_solve.proofs.SearchLemmas.{on_ok_more}
+use Rattle.prop_spread.proofs.Refusals.{on_ok_more}
 use Rattle.prop_solve.proofs.solver.Solver.teach_one.Goals as goal
 
 pub returns-in_ok-with_more-in-Some : goal.returns-in_ok-with_more-in-Some

@@ -1,7 +1,7 @@
 use Rattle.std.proofs.Common.{◌∙◌, ap, sym}
 use Rattle.prop_solve.specs.Searches.{Search}
 use Rattle.prop_solve.proofs.EarlierLemmas.{refuted_never, teaches_one}
-use Rattle.prop_solve.proofs.SearchLemmas.{on_ok_more}
+use Rattle.prop_spread.proofs.Refusals.{on_ok_more}
 use Rattle.prop_solve.proofs.solver.Solver.teach_refuted.Goals as goal
 
 pub returns : goal.returns

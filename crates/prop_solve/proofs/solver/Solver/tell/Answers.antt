@@ -5,9 +5,8 @@ use Rattle.prop_premises.specs.ChoiceLists.{IsChoiceList, worldview}
 use Rattle.prop_premises.specs.Origins.{believed_in, choices_of}
 use Rattle.prop_procedures.specs.Kept.{stored_of}
 use Rattle.prop_plans.specs.Plans.{Satisfy}
-use Rattle.prop_solve.specs.Answers.{AreSingle}
+use Rattle.prop_spread.specs.Proposals.{AreSingle}
 use Rattle.prop_solve.specs.Questions.{AreExcusing}
-use Rattle.prop_solve.specs.Searches.{Proposed}
 use Rattle.prop_solve.proofs.SearchLemmas.{satisfy_same}
 use Rattle.prop_solve.proofs.solver.Solver.tell.Goals as goal
 
@@ -22,7 +21,7 @@ returns-clause-found g c =
     let world = worldview (believed_in premises) choices c.args.proposal.sides in
     let values = c.in_ok-values.values.items in
     let same : values ≡ c.args.proposal.check.values =
-    c.in_ok-values.ensures.items ∙ c.values.ensures ∙ ap (λ (p : Proposed). p.check.values) c.proposal.view_is in
+    c.in_ok-values.ensures.items ∙ c.values.ensures in
     let old = c.args.self.now in
     let told = c.in_ok-excuse_values.ensures.excused ok in
     let P : List ℕ → Type 0 = IsChoiceList choices in

@@ -15,7 +15,7 @@ returns-then-not-is_done-clause-does g c =
     let t = c.args.self.now in
     let library = stored_of g.R.Rule.value_of t.session.live.network.library in
     let counts = c.counts-domains.ensures in
-    let noted = c.pass-reply.ensures.notes ∙ c.in-Ok.ensures.ok in
+    let noted = c.pass_read-reply.ensures.notes ∙ c.in-Ok.ensures.ok in
     let same : c.back.new.self ≡ t.notes = c.back.ensures
     ∙ (λ i. record {
       domains = take (counts i).0 (noted i).domains;
@@ -23,10 +23,10 @@ returns-then-not-is_done-clause-does g c =
       uses = take (counts i).2 (noted i).uses;
     })
     ∙ taken_back t.notes (note_value c.args.note) in
-    does_noted g.O.Order.picks library (told_of t) c.args.line.now (answer_of c.pass-reply.result)
-    (record { standing = standing_of c.pass-reply.new.self.session; notes = c.back.new.self })
-    c.pass-reply.ensures.works
-    (unnoted_by (told_of t) c.args.line.now (answer_of c.pass-reply.result) c.back.new.self c.requires.noted
+    does_noted g.O.Order.picks library (told_of t) c.args.line.now (answer_of c.pass_read-reply.result)
+    (record { standing = standing_of c.pass_read-reply.new.self.session; notes = c.back.new.self })
+    c.pass_read-reply.ensures.works
+    (unnoted_by (told_of t) c.args.line.now (answer_of c.pass_read-reply.result) c.back.new.self c.requires.noted
     (sym c.is_done.ensures ∙ c.if-not-is_done.true) same) c.requires.may
 
 pub returns-in-Err-clause-does : goal.returns-in-Err-clause-does

@@ -1,4 +1,6 @@
-use Rattle.std.proofs.Common.{ap, Err}
+use Rattle.std.proofs.Common.{ap, subst, ◌∙◌, Err}
+use Rattle.prop_language.specs.Reading.{IsReading}
+use Rattle.prop_language.specs.Said.{Reads}
 use Rattle.prop_procedures.specs.Kept.{stored_of}
 use Rattle.prop_engine.specs.Answers.{Refused}
 use Rattle.prop_workbench.specs.inner.Machine.{naming}
@@ -15,8 +17,8 @@ pub returns-in-Err-clause-read : goal.returns-in-Err-clause-read
 returns-in-Err-clause-read g c =
     let s = c.args.self.now in
     let library = stored_of g.R.Rule.value_of s.live.network.library in
-    let refused = follows_refused c.args.line.now c.in-Err.refusal c.in-Err.ensures.read
-    (λ m. c.in-Err.ensures.memory (ap Err m)) in (
+    let refused = follows_refused c.args.line.now c.in-Err.refusal (subst (λ r. Reads r (IsReading c.args.line.now)) c.in-Err.is c.requires.read)
+    (λ m. c.requires.memory (c.in-Err.is ∙ ap Err m)) in (
       refused.0,
       refused.1,
       record {
@@ -28,7 +30,7 @@ returns-in-Err-clause-read g c =
     )
 
 pub carry_out-requires-clause-some : goal.carry_out-requires-clause-some
-carry_out-requires-clause-some g c = has_elements c.args.line.now _ c.in-Ok.ensures.read
+carry_out-requires-clause-some g c = has_elements c.args.line.now _ (subst (λ r. Reads r (IsReading c.args.line.now)) c.in-Ok.is c.requires.read)
 
 pub returns-in-Err-clause-keeps : goal.returns-in-Err-clause-keeps
 returns-in-Err-clause-keeps g c = stays (unchanged c.requires.sound)
@@ -39,6 +41,6 @@ returns-in-Ok-clause-keeps g c = c.carry_out.ensures.keeps
 pub returns-in-Ok-clause-read : goal.returns-in-Ok-clause-read
 returns-in-Ok-clause-read g c = (
   _,
-  c.in-Ok.ensures.read,
+  subst (λ r. Reads r (IsReading c.args.line.now)) c.in-Ok.is c.requires.read,
   record { step = c.carry_out.ensures.step; rests = c.carry_out.ensures.rests },
 )
