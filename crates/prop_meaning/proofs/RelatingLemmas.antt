@@ -15,7 +15,7 @@ use Rattle.prop_lattice.specs.declared.info.Kind.TheVariants.{Set}
 use Rattle.prop_procedures.specs.declared.shape.Kinded.{Kinded}
 use Rattle.prop_sets.specs.Chosen.{any_below}
 use Rattle.prop_sets.specs.Images.{HoldsJust, IsInImage}
-use Rattle.prop_sets.specs.Relation.{HasPair, Relation}
+use Rattle.prop_sets.specs.Relation.{Relation}
 use Rattle.prop_sets.specs.declared.side.Side.{Side}
 use Rattle.prop_terms.specs.declared.operators.Infix.TheVariants as between
 use Rattle.prop_terms.specs.Meaning.{Value, Text, all_of, is_same, truth, worth}

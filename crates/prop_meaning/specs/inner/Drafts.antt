@@ -1,13 +1,13 @@
 -- Drafts: fresh cells in a row behind the given ones. Each is made by a step, of given cells and of
 -- fresh cells before it.
-use Rattle.std.specs.Prelude.{◌≡◌, ℕ, ◌+◌, ◌-◌, ◌<◌, List, cond, nat_lt, Option, Some, ⊤, Bool}
+use Rattle.std.specs.Prelude.{◌≡◌, ℕ, ◌+◌, ◌-◌, ◌<◌, List, cond, nat_lt, Option, Some, ⊤}
 use Rattle.std.specs.Prelude.{pos}
 use Rattle.std.specs.Prelude.{slice_get}
 use Rattle.std.specs.Option.{option_map}
 use Rattle.prop_lattice.specs.Points.{Point, Element, Number, IsPointOf}
 use Rattle.prop_lattice.specs.declared.info.Kind.TheVariants as kinds
 use Rattle.prop_procedures.specs.declared.shape.Kinded.{Kinded}
-use Rattle.prop_terms.specs.Meaning.{Value, Text, worth}
+use Rattle.prop_terms.specs.Meaning.{Text, worth}
 use Rattle.prop_terms.specs.Terms.{Term}
 use Rattle.prop_meaning.specs.Words.{Lexicon, IsLexicon, Fits, IsWithin, names_at, value_as}
 use Rattle.prop_meaning.specs.Words.{domain_of, LiesIn}

@@ -1,5 +1,5 @@
 -- What is made of two elements that may be a pair of a relation.
-use Rattle.std.specs.Prelude.{◌≡◌, ℕ, zero, suc, List, Bool, false, cond, Some}
+use Rattle.std.specs.Prelude.{◌≡◌, ℕ, zero, suc, List, Bool, cond, Some}
 use Rattle.prop_lattice.specs.Points.{Point, Element}
 use Rattle.prop_lattice.specs.declared.info.Kind.TheVariants.{Set}
 use Rattle.prop_procedures.specs.declared.shape.Kinded.{Kinded}

@@ -1,4 +1,4 @@
-use Rattle.std.proofs.Common.{◌≡◌, ◌-◌, ℕ, suc, arith}
+use Rattle.std.proofs.Common.{◌≡◌, ◌-◌, suc, arith}
 use Rattle.prop_meaning.proofs.Growing.{both_ok}
 use Rattle.prop_meaning.proofs.RelatingLemmas.{makes_more}
 use Rattle.prop_meaning.proofs.relating.+and_supported.Goals as goal

@@ -1,4 +1,4 @@
-use Rattle.std.proofs.Common.{◌≡◌, ◌∙◌, ◌-◌, ◌<◌, ℕ, suc, Bool, true, false, refl, ap, sym, subst, arith}
+use Rattle.std.proofs.Common.{◌≡◌, ◌∙◌, ◌-◌, ◌<◌, suc, refl, ap, sym, subst, arith}
 use Rattle.prop_meaning.specs.inner.Drafts.{Has, IsElement, truth_kind}
 use Rattle.prop_meaning.specs.inner.Relating.{are_joined, second_side, side_kind}
 use Rattle.prop_meaning.proofs.Growing.{both_ok, grown_trans, has_grows, on_ok}

@@ -1,4 +1,4 @@
-use Rattle.std.proofs.Common.{ℕ, true, false, refl, subst}
+use Rattle.std.proofs.Common.{true, false, refl, subst}
 use Rattle.prop_sets.specs.declared.side.Side.{Side}
 use Rattle.prop_meaning.specs.declared.relating.Link.{Link}
 use Rattle.prop_meaning.specs.inner.Drafts.{Makes, truth_kind}

@@ -1,4 +1,4 @@
-use Rattle.std.proofs.Common.{◌∙◌, ℕ, ap, sym, subst}
+use Rattle.std.proofs.Common.{◌∙◌, ap, sym, subst}
 use Rattle.prop_sets.specs.declared.side.Side.{Side}
 use Rattle.prop_meaning.specs.inner.Drafts.{IsElement, Makes, truth_kind}
 use Rattle.prop_meaning.specs.inner.Relating.{any_partner, are_joined, side_kind}
