@@ -1,6 +1,6 @@
 -- What is attached to cells for a term demands what it says: no point is lost, and none is wrong.
 use Rattle.std.proofs.Common.{◌≡◌, ◌∙◌, ℕ, zero, suc, ◌<◌, List, [], ◌∷◌, ◌++◌, All, IsTrue, length}
-use Rattle.std.proofs.Common.{Bool, false, map, Option, None, ap, sym, subst, take}
+use Rattle.std.proofs.Common.{map, Option, None, ap, sym, subst, take}
 use Rattle.std.specs.Prelude.{⊤}
 use Rattle.std.specs.List.{AllByRecursion}
 use Rattle.std.proofs.lemmas.List.Elements.{All-append}
@@ -21,7 +21,7 @@ use Rattle.prop_vocabulary.specs.Cells.{CellNames}
 use Rattle.prop_vocabulary.specs.Vocabulary as vocabularies
 use Rattle.prop_vocabulary.specs.Vocabulary.{Vocabulary}
 use Rattle.prop_plans.specs.Held.{AreHeld, attached_of}
-use Rattle.prop_terms.specs.Meaning.{Value, holds, worth}
+use Rattle.prop_terms.specs.Meaning.{holds, worth}
 use Rattle.prop_terms.specs.Terms.{Term}
 use Rattle.prop_meaning.specs.Acts.{RelatedBy, TellsBy}
 use Rattle.prop_meaning.specs.Posting.{SaysSame, Solves}
