@@ -78,7 +78,8 @@ are_paired m i j = bit_at (slice_index m.rows i) j == 1
 
 -- the values are what the two elements of some pair of the relation are called
 abbrev pub is_pair : (ℕ → ℕ → List ℕ) → List Value → Relation → Bool
-is_pair called (v ∷ w ∷ []) m = any_below m.from.size (λ i. is_same v (Text (called m.from.domain i))
+is_pair called (v ∷ w ∷ []) m =
+    any_below m.from.size (λ i. is_same v (Text (called m.from.domain i))
     && any_below m.to.size (λ j. is_same w (Text (called m.to.domain j)) && are_paired m i j))
 is_pair called vs m = false
 

@@ -50,7 +50,8 @@ any_partner test (suc j) start q = let before = any_partner test j start q in
 -- the first point is another element than i, or the second is paired with it
 abbrev pub supported : Link → ℕ → Point → Point → Point
 supported link i p q =
-    any_partner (are_joined link i) (second_side link).size (of_one Not (of_two Same p (Element i))) q
+    any_partner (are_joined link i) (second_side link).size
+    (of_one Not (of_two Same p (Element i))) q
 
 -- the truth holds, and whichever of the first so many elements the first point is, the second is
 -- paired with that
