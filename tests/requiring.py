@@ -38,8 +38,10 @@ TRIED, AT_A_TIME, BY_ITSELF = 150, 25, 400
 TURNS, ROWS, STEPS = 40, 200, 1_000_000
 # So many constraints with a wrong part are tried in each network.
 MISREAD = 6
-MONTHS = ("jan", "feb", "mar")
-DOMAINS = {"truth": ("yes", "no"), "month": MONTHS}
+MONTHS, PLACES = ("jan", "feb", "mar"), ("hall", "yard")
+DOMAINS = {"truth": ("yes", "no"), "month": MONTHS, "place": PLACES}
+# Of which domains the pairs of each relation are.
+RELATIONS = {"before": ("month", "month"), "free": ("month", "place")}
 
 Value = Union[int, str]
 Points = dict[str, Value]
@@ -106,6 +108,7 @@ class Draw:
 
     chance: Random
     kinds: dict[str, str]
+    pairs: dict[str, set[tuple[str, str]]]
 
     def cell(self, kind: str) -> Optional[Part]:
         cells = [cell for cell, of in self.kinds.items() if of == kind]
@@ -253,6 +256,26 @@ class Draw:
         text = f"{item.within(12)} in {{{between.join(map(str, words))}}}"
         return Part(text, 11, lambda points: truth(item.worth(points) in words))
 
+    def paired(self, depth: int) -> Part:
+        """Two elements that may be a pair of a relation."""
+        word = self.chance.choice(list(RELATIONS))
+        left, right = (self.element(kind, depth - 1) for kind in RELATIONS[word])
+        pairs: set[tuple[Value, Value]] = {*self.pairs[word]}
+        return Part(
+            f"({left.within(3)}, {right.within(3)}) in {word}",
+            11,
+            lambda points: truth((left.worth(points), right.worth(points)) in pairs),
+        )
+
+    def element(self, kind: str, depth: int) -> Part:
+        """An element of a domain, by its word or shown by a cell."""
+        word = self.chance.choice(DOMAINS[kind])
+        known = Part(word, 17, lambda points: word)
+        shown = self.cell(kind) or known
+        if depth > 0 and self.chance.random() < 0.2:
+            return self.choice(depth, lambda depth: shown)
+        return known if self.chance.random() < 0.2 else shown
+
     def different(self, depth: int) -> Part:
         """Several numbers, months or truths, of which no two are equal."""
         chance = self.chance
@@ -276,7 +299,9 @@ class Draw:
         if depth <= 0:
             known = chance.choice(["yes", "no"])
             return self.cell("truth") or Part(known, 17, lambda points: known)
-        shape = chance.randrange(12)
+        shape = chance.randrange(14)
+        if shape >= 12:
+            return self.paired(depth)
         if shape == 11:
             return self.looked_up(depth, self.truth)
         if shape == 10:
@@ -347,6 +372,13 @@ NO_TRUTHS = {
     "different(n0, far, sure)": "error 13: wrong kind",
     "different(stray, n0)": "error 9: no such cell",
     "different(apr, stray)": "error 9: no such cell",
+    "((month, n0) in free)": "error 13: wrong kind",
+    "((n0, hall) in free)": "error 13: wrong kind",
+    "((month, mar) in free)": "error 15: not in the domain",
+    "((stray, hall) in free)": "error 15: not in the domain",
+    "((month, jan) in stray)": "error 19: no such relation",
+    "((month, jan, mar) in before)": "error 4: wrong form",
+    "(month in before)": "error 4: wrong form",
 }
 # The cells that these parts name, beside those of the network.
 SPARE = ("cell far span", "cell sure truth", "cell month month")
@@ -417,14 +449,16 @@ class Session:
         chance = Random(f"requiring {self.seed}")
         kinds = self.kinds(chance)
         values = {cell: self.values(chance, kind) for cell, kind in kinds.items()}
-        self.say("domain month jan feb mar")
+        for name in ("month", "place"):
+            self.say(f"domain {name} {' '.join(DOMAINS[name])}")
+        pairs = {name: self.related(name, chance) for name in RELATIONS}
         self.say(f"limit {STEPS}")
         for cell, kind in kinds.items():
             self.say(f"cell {cell} {'span' if kind == 'number' else kind}")
             if kind == "number":
                 self.say(f"fix {cell} {min(values[cell])}..{max(values[cell])}")
-        self.misread(kinds, chance)
-        draw = Draw(chance, kinds)
+        self.misread(kinds, chance, pairs)
+        draw = Draw(chance, kinds, pairs)
         defined = self.defined(draw, chance)
         required = self.required(draw, chance)
         self.held(values, defined, required, set())
@@ -435,7 +469,9 @@ class Session:
         self.held(values, defined, required, set())
 
     def kinds(self, chance: Random) -> dict[str, str]:
-        kinds = {f"n{k}": "number" for k in range(chance.randint(1, 3))}
+        places = chance.randint(0, 1)
+        kinds = {f"n{k}": "number" for k in range(chance.randint(1, 3 - places))}
+        kinds.update({f"l{k}": "place" for k in range(places)})
         kinds.update({f"m{k}": "month" for k in range(chance.randint(0, 2))})
         return {**kinds, **{f"t{k}": "truth" for k in range(chance.randint(0, 2))}}
 
@@ -445,13 +481,23 @@ class Session:
         low = chance.randint(-4, 3)
         return list(range(low, low + chance.randint(0, 5) + 1))
 
-    def misread(self, kinds: dict[str, str], chance: Random) -> None:
+    def related(self, name: str, chance: Random) -> set[tuple[str, str]]:
+        """The pairs of a relation, which is declared."""
+        first, second = RELATIONS[name]
+        every = [*itertools.product(DOMAINS[first], DOMAINS[second])]
+        pairs = chance.sample(every, chance.randint(1, len(every)))
+        self.say(f"relation {name} {first} {second} = {' ; '.join(map(' '.join, pairs))}")
+        return {*pairs}
+
+    def misread(
+        self, kinds: dict[str, str], chance: Random, pairs: dict[str, set[tuple[str, str]]]
+    ) -> None:
         """Holds what is told of constraints with a wrong part to what is wrong with that part."""
         for line in SPARE:
             self.say(line)
         before = self.say("list")
         for _ in range(MISREAD):
-            draw = Misdraw(chance, kinds)
+            draw = Misdraw(chance, kinds, pairs)
             part = draw.truth(chance.randint(0, 3))
             if not draw.told:
                 continue
@@ -472,7 +518,7 @@ class Session:
         """Cells that are defined; those before may be parts. They are drawn from then on."""
         parts: dict[str, Part] = {}
         for k in range(chance.randint(0, 2)):
-            kind = chance.choice(sorted({"number", "truth", *draw.kinds.values()}))
+            kind = chance.choice(sorted({"number", "truth", *draw.kinds.values()} - {"place"}))
             part = draw.of_kind(kind, chance.randint(0, 2))
             line = f"let d{k} = {part.text}"
             reply = self.say(line)
@@ -580,7 +626,15 @@ REFUSED = [
     ("require element(x; 0: 2, 1: 1, 2: 1, 3: t) < 3", "error 13: wrong kind"),
     ("require element(x; 0: 2, 1: 1, m: 1) < 3", "error 6: not a number in range"),
     ("require element(x < 3) == 3", "error 4: wrong form"),
-    ("require (x, x) in pairs", "error 4: wrong form"),
+    ("relation next month month = jan feb ; feb mar", "ok"),
+    ("require (x, x) in pairs", "error 19: no such relation"),
+    ("require (m, x) in next", "error 13: wrong kind"),
+    ("require (m, apr) in next", "error 15: not in the domain"),
+    ("require (m, m, m) in next", "error 4: wrong form"),
+    ("require m in next", "error 4: wrong form"),
+    ("require (m, m) in 2..3", "error 4: wrong form"),
+    ("require (m, m) in next + 1", "error 4: wrong form"),
+    ("let y = (m, jan) in next < 2", "error 4: wrong form"),
     ("require different(x, t)", "error 13: wrong kind"),
     ("require different(x, y)", "error 9: no such cell"),
     ("require different()", "error 4: wrong form"),
@@ -603,6 +657,13 @@ REFUSED = [
     ("let late = if t then m else feb", "ok"),
     ("fix m jan", "ok"),
     ("ask late", "late = jan"),
+    ("cell n month", "ok"),
+    ("require (m, n) in next", "ok"),
+    ("ask n", "n = feb"),
+    ("require (jan, feb) in next", "ok"),
+    ("require not (n, m) in next", "ok"),
+    ("let first = (feb, jan) in next", "ok"),
+    ("ask first", "first = no"),
 ]
 
 

@@ -5,7 +5,7 @@ out.
 usage: tests/spoiled_requiring.py SPOIL PROGRAM
 
 answers as PROGRAM does but for what SPOIL changes of constraints and definitions: bare, turned,
-weaker, forgotten, refused, blunt or other.
+weaker, swapped, forgotten, refused, blunt or other.
 """
 import os
 import re
@@ -36,7 +36,14 @@ def weaker(line: str) -> str:
     return re.sub(r"\band\b", "or", line)
 
 
-SPOILS: dict[str, Callable[[str], str]] = {it.__name__: it for it in (bare, turned, weaker)}
+def swapped(line: str) -> str:
+    """A pair of two of one domain is turned round."""
+    return re.sub(r"\((\w+), (\w+)\) in before", r"(\2, \1) in before", line)
+
+
+SPOILS: dict[str, Callable[[str], str]] = {
+    it.__name__: it for it in (bare, turned, weaker, swapped)
+}
 # What is answered in place of the program, and what in place of any of its refusals.
 ANSWERED = {"forgotten": DONE, "refused": WRONG_FORM}
 BLUNT = "blunt"
@@ -48,6 +55,7 @@ SAYS = {
     "bare": "lost",
     "turned": "lost",
     "weaker": "wrong",
+    "swapped": "lost",
     "forgotten": "wrong",
     "refused": WRONG_FORM,
     BLUNT: f"'{WRONG_KIND}'], and not",

@@ -1,6 +1,6 @@
 -- What is attached to cells for a term demands what it says: no point is lost, and none is wrong.
 use Rattle.std.proofs.Common.{◌≡◌, ◌∙◌, ℕ, zero, suc, ◌<◌, List, [], ◌∷◌, ◌++◌, All, IsTrue, length}
-use Rattle.std.proofs.Common.{Bool, false, map, Option, None, ap, sym, subst, take}
+use Rattle.std.proofs.Common.{map, Option, None, ap, sym, subst, take}
 use Rattle.std.specs.Prelude.{⊤}
 use Rattle.std.specs.List.{AllByRecursion}
 use Rattle.std.proofs.lemmas.List.Elements.{All-append}
@@ -21,7 +21,7 @@ use Rattle.prop_vocabulary.specs.Cells.{CellNames}
 use Rattle.prop_vocabulary.specs.Vocabulary as vocabularies
 use Rattle.prop_vocabulary.specs.Vocabulary.{Vocabulary}
 use Rattle.prop_plans.specs.Held.{AreHeld, attached_of}
-use Rattle.prop_terms.specs.Meaning.{Value, holds, worth}
+use Rattle.prop_terms.specs.Meaning.{holds, worth}
 use Rattle.prop_terms.specs.Terms.{Term}
 use Rattle.prop_meaning.specs.Acts.{RelatedBy, TellsBy}
 use Rattle.prop_meaning.specs.Posting.{SaysSame, Solves}
@@ -150,8 +150,8 @@ module _ (library : List Stored) (palette : IsPalette library) (names : CellName
 
     -- it holds where this premise is believed, or there is none
     abbrev pub Holding : Option ℕ → Members → (ℕ → Point) → Type 0
-    Holding under believed points = IsTrue (is_member believed under) → (related : List ℕ → List Value → Bool)
-        → IsTrue (holds (worth (names_at lexicon related points) t))
+    Holding under believed points = IsTrue (is_member believed under)
+        → IsTrue (holds (worth (names_at lexicon points) t))
 
     module _ (under : Option ℕ) (solid : IsSolid library (joined n fresh (map (stated_at count None) constants
         ++ stated_at count under (posted.result, elements_from 1) ∷ []) made))
@@ -179,10 +179,10 @@ module _ (library : List Stored) (palette : IsPalette library) (names : CellName
               let told = by_recursion (IsStated believed points) last
               (all_second (IsStated believed points) fixed last stated) in (
                 old,
-                λ member related.
+                λ member.
                     let P : Point → Type 0 = λ x. Holds (elements_from 1) x in
                     let yes = subst P (result_there points) (told.0 member) in
-                    (says.none_wrong is_lexicon related points (fits believed points old) solves).0
+                    (says.none_wrong is_lexicon points (fits believed points old) solves).0
                     (held_yes (points posted.result) yes),
               );
           found = λ believed points q meets.
@@ -197,13 +197,12 @@ module _ (library : List Stored) (palette : IsPalette library) (names : CellName
                 acts = tells_all all posted.acts.items lost.2.acts;
               } in
               let first = constants_stated count believed all constants lost.2.constants in
-              let none : List ℕ → List Value → Bool = λ w vs. false in
-              let alike = names_alike names words d whole domains named none points all same in
+              let alike = names_alike names words d whole domains named points all same in
               let told : AllByRecursion (IsStated believed all) last = (
                 λ member.
                     let is_zero : all posted.result ≡ Element 0 =
-                    (says.none_wrong is_lexicon none all all_fits tells).1
-                    (subst (λ v. IsTrue (holds (worth v t))) (sym alike) (meets member none)) in
+                    (says.none_wrong is_lexicon all all_fits tells).1
+                    (subst (λ v. IsTrue (holds (worth v t))) (sym alike) (meets member)) in
                     let P : Point → Type 0 = λ x. Holds (elements_from 1) x in
                     subst P (sym (result_there all ∙ is_zero)) yes_held,
                 tt,

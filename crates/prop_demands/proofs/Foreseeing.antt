@@ -37,11 +37,11 @@ pub foreseen_is_known : (library : List Stored) (names : CellNames) (words : Voc
     → IsForeseen (lexicon_in (seen names words d whole domains)) t known
     → IsKnownIn library (state_from names words definitions premises d limit) t known.kinded known.span
 foreseen_is_known library names words definitions premises d limit whole domains t known ground is_whole foreseen
-    believed points q related =
+    believed points q =
     let lexicon = lexicon_in (seen names words d whole domains) in
     let law = lexicon_law names words d whole domains ground.law ground.sized in
     let fits = points_fit library names words d whole domains ground.kept is_whole believed points q in
-    let f = foreseen law related points fits in
-    let alike = names_alike names words d whole domains ground.named related points f.0 f.1 in
+    let f = foreseen law points fits in
+    let alike = names_alike names words d whole domains ground.named points f.0 f.1 in
     let P : Names → Type 0 = λ n. worth n t ≡ Some (value_as lexicon known.kinded f.2) in
     (f.2, f.3.0, holds_from known.kinded.kind known.kinded.size known.span f.2 f.3.0 f.3.1, subst P alike f.4)

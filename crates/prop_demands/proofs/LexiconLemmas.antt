@@ -3,7 +3,7 @@ use Rattle.std.proofs.Common.{◌≡◌, ◌∙◌, ℕ, ℤ, zero, suc, ◌+◌
 use Rattle.std.proofs.Common.{nat_lt, List, [], ◌∷◌, All, length, get_or, Option, Some, None, IsTrue}
 use Rattle.std.proofs.Common.{refl, ap, sym, subst, arith, eqb-true, eq-eqb}
 use Rattle.std.specs.Prelude.{slice_get, unwrap_or, bytes_eq}
-use Rattle.std.specs.Option.{option_map_or}
+use Rattle.std.specs.Option.{option_and_then, option_map_or}
 use Rattle.std.specs.Str.{is_utf8}
 use Rattle.std.proofs.lemmas.Int.{ints}
 use Rattle.std.proofs.lemmas.List.{length-replicate}
@@ -22,11 +22,12 @@ use Rattle.prop_procedures.specs.declared.shape.Kinded.{Kinded}
 use Rattle.prop_procedures.specs.Fitting.{kind_at}
 use Rattle.prop_procedures.specs.Stored.{Stored, span_kind}
 use Rattle.prop_sets.specs.Names.{AreElements}
+use Rattle.prop_sets.specs.Relation.{Relation}
 use Rattle.prop_sets.proofs.NameLemmas.{position_at}
 use Rattle.prop_vocabulary.specs.Cells.{CellNames, cell_named}
 use Rattle.prop_vocabulary.specs.Names.{number_in}
 use Rattle.prop_vocabulary.specs.Vocabulary as vocabularies
-use Rattle.prop_vocabulary.specs.Vocabulary.{Vocabulary, elements_of}
+use Rattle.prop_vocabulary.specs.Vocabulary.{HasSides, Vocabulary, elements_of, relation_named}
 use Rattle.prop_vocabulary.specs.Texts.{elements_of_kind}
 use Rattle.prop_vocabulary.proofs.CellLookups.{of_named}
 use Rattle.prop_contents.specs.Contents.{beliefs}
@@ -95,7 +96,7 @@ symbols_differ symbols m n h = by (is_symbol symbols m) (is_symbol symbols n) re
 
 -- ---- the lexicon
 
-found_if : (b : Bool) (o : Option ℕ) (i : ℕ) → cond b o None ≡ Some i → o ≡ Some i
+found_if : {X : Type 0} (b : Bool) (o : Option X) (i : X) → cond b o None ≡ Some i → o ≡ Some i
 found_if true o i e = e
 found_if false o i e = cc
 
@@ -108,6 +109,16 @@ elements_there words domain i whole l = by (slice_get words.domains domain) refl
     by None e l = absurd (omega (arith, l))
     by (Some es) e l = subst AreElements (get_or_from_slice_get words.domains domain es [] e)
         (whole.each_domain domain [] (slice_get_within words.domains domain es e))
+
+-- a relation that has a name is between two of the domains
+sides_there : (words : Vocabulary) (name : List ℕ) (m : Relation) → vocabularies.IsWhole words
+    → relation_named words name ≡ Some m → HasSides words.domains m
+sides_there words name m whole e = by (number_in words.relation_names name) e
+  where
+    by : (o : Option ℕ) → option_and_then (slice_get words.relations) o ≡ Some m → HasSides words.domains m
+    by None e = cc
+    by (Some n) e = subst (HasSides words.domains) (get_or_from_slice_get words.relations n m m e)
+        (whole.each_relation n m (slice_get_within words.relations n m e))
 
 -- a kind has no more elements than a set has
 kinds_few : (words : Vocabulary) → vocabularies.IsWhole words → (kind : Kind)
@@ -131,6 +142,9 @@ module _ (names : CellNames) (words : Vocabulary) (d : Data) (whole : Span) (dom
     pub lexicon_law : IsLexicon (lexicon_in (seen names words d whole domains))
     lexicon_law = record {
       sizes = λ i domain l e. (sized i span_kind l).1 ∙ ap (λ k. length (elements_of_kind words k)) e;
+      sides = λ w m e.
+          let has = sides_there words w m law (found_if (is_utf8 w) (relation_named words w) m e) in
+          (has.first.size_is, has.second.size_is);
       elements = λ domain w i e.
           number_found (elements_of words domain) w i (found_if (nat_lt domain domains) _ i e);
       elements_differ = λ domain i j li lj same.
@@ -202,7 +216,7 @@ module _ (library : List Stored) (names : CellNames) (words : Vocabulary) (d : D
 -- ---- names at points that are alike
 
 module _ (names : CellNames) (words : Vocabulary) (d : Data) (whole : Span) (domains : ℕ)
-    (named : All (λ cell. cell < length d.kinds) names.cells) (related : List ℕ → List Value → Bool)
+    (named : All (λ cell. cell < length d.kinds) names.cells)
     (points all : ℕ → Point) (same : (i : ℕ) → i < length d.kinds → all i ≡ points i)
   where
     abbrev at : (ℕ → Point) → ℕ → Value
@@ -210,9 +224,12 @@ module _ (names : CellNames) (words : Vocabulary) (d : Data) (whole : Span) (dom
         let lexicon = lexicon_in (seen names words d whole domains) in
         value_as lexicon (lexicon.known i).kinded (a i)
 
-    pub names_alike : names_at (lexicon_in (seen names words d whole domains)) related all
-        ≡ names_at (lexicon_in (seen names words d whole domains)) related points
-    names_alike = λ j. record { value = λ w. value_alike w j; related = related }
+    pub names_alike : names_at (lexicon_in (seen names words d whole domains)) all
+        ≡ names_at (lexicon_in (seen names words d whole domains)) points
+    names_alike = λ j. record {
+      value = λ w. value_alike w j;
+      related = (names_at (lexicon_in (seen names words d whole domains)) points).related;
+    }
       where
         by : (w : List ℕ) (o : Option ℕ) → cond (is_utf8 w) (cell_named names w) None ≡ o
             → option_map_or (at all) o (Text w) ≡ option_map_or (at points) o (Text w)

@@ -10,9 +10,10 @@ no_text w n = by (is_utf8 w) refl
     by true e = absurd (n (IsUtf8-from_is_utf8 w e))
     by false e = e
 
-pub in_text : (w v : List ℕ) (o : Option ℕ) (f : List ℕ → Option ℕ) → v ≡ w → IsUtf8 w → o ≡ f v
+pub in_text : {X : Type 0} (w v : List ℕ) (o : Option X) (f : List ℕ → Option X) → v ≡ w → IsUtf8 w → o ≡ f v
     → o ≡ cond (is_utf8 w) (f w) None
 in_text w v o f same text e = rw (is_utf8-from_IsUtf8 w text) (e ∙ ap f same)
 
-pub in_no_text : (w : List ℕ) (f : List ℕ → Option ℕ) → ¬ (IsUtf8 w) → None ≡ cond (is_utf8 w) (f w) None
+pub in_no_text : {X : Type 0} (w : List ℕ) (f : List ℕ → Option X) → ¬ (IsUtf8 w)
+    → None ≡ cond (is_utf8 w) (f w) None
 in_no_text w f n = rw (no_text w n) refl

@@ -1,13 +1,13 @@
 -- What an expression that is required demands: the points that satisfy a state are then those that
 -- satisfied it before and at which the expression holds.
-use Rattle.std.specs.Prelude.{◌≡◌, ◌<◌, ℕ, List, Bool, IsTrue, Option, Result, Ok, Err, ⊤, length}
+use Rattle.std.specs.Prelude.{◌≡◌, ◌<◌, ℕ, List, IsTrue, Option, Result, Ok, Err, ⊤, length}
 use Rattle.std.specs.Option.{option_map}
 use Rattle.prop_lattice.specs.Points.{Point}
 use Rattle.prop_numbers.specs.Sets.{Members}
 use Rattle.prop_refusals.specs.declared.refusal.Refusal.{Refusal}
 use Rattle.prop_procedures.specs.Stored.{Stored}
 use Rattle.prop_cells.specs.Problems.{is_member}
-use Rattle.prop_terms.specs.Meaning.{Value, holds, worth}
+use Rattle.prop_terms.specs.Meaning.{holds, worth}
 use Rattle.prop_terms.specs.Terms.{Term}
 use Rattle.prop_workbench.specs.Effects.{number_given}
 use Rattle.prop_workbench.specs.Machine.{State}
@@ -30,7 +30,7 @@ pub record Demands (library : List Stored) (old new : State)
 abbrev pub HoldsUnder : State → Term → Option (List ℕ) → Members → (ℕ → Point) → Type 0
 HoldsUnder s t premise believed points =
     IsTrue (is_member believed (option_map (number_given s.premises) premise))
-    → (related : List ℕ → List Value → Bool) → IsTrue (holds (worth (names_in s related points) t))
+    → IsTrue (holds (worth (names_in s points) t))
 
 -- what is demanded: that the term holds under its premise, where that was carried out, and nothing
 -- where it was refused

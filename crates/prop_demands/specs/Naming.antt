@@ -6,11 +6,12 @@ use Rattle.std.specs.Str.{is_utf8}
 use Rattle.prop_lattice.specs.Points.{Point}
 use Rattle.prop_lattice.specs.declared.info.Kind.{Kind}
 use Rattle.prop_procedures.specs.Fitting.{kind_at}
-use Rattle.prop_meaning.specs.Words.{domain_of}
+use Rattle.prop_sets.specs.Relation.{Relation}
+use Rattle.prop_meaning.specs.Words.{domain_of, is_pair}
 use Rattle.prop_terms.specs.Meaning.{Names, Text, Value, value_of}
 use Rattle.prop_vocabulary.specs.Cells.{cell_named}
 use Rattle.prop_vocabulary.specs.Names.{number_in}
-use Rattle.prop_vocabulary.specs.Vocabulary.{elements_of}
+use Rattle.prop_vocabulary.specs.Vocabulary.{elements_of, relation_named}
 use Rattle.prop_workbench.specs.Machine.{State}
 
 -- how many letters all these names have together
@@ -37,19 +38,26 @@ symbol_word symbols n =
 abbrev pub cell_called : State → List ℕ → Option ℕ
 cell_called s w = cond (is_utf8 w) (cell_named s.names w) None
 
+-- the relation that a word names
+abbrev pub relation_called : State → List ℕ → Option Relation
+relation_called s w = cond (is_utf8 w) (relation_named s.words w) None
+
+-- what an element of a domain is called
+abbrev pub element_word : State → ℕ → ℕ → List ℕ
+element_word s domain i = slice_index_or (elements_of s.words domain) i []
+
 -- the value of a point of this kind
 abbrev pub value_in : State → Kind → Point → Value
-value_in s k p = value_of
-    (λ i. slice_index_or (elements_of s.words (domain_of k)) i []) (symbol_word s.words.symbols) p
+value_in s k p = value_of (element_word s (domain_of k)) (symbol_word s.words.symbols) p
 
 -- the value of a cell at these points
 abbrev pub value_at : State → (ℕ → Point) → ℕ → Value
 value_at s points cell = value_in s (kind_at s.kinds cell).kind (points cell)
 
 -- The name of a cell stands for the cell's value at these points, and any other word for itself.
--- Which values belong to a relation is left to `related`.
-abbrev pub names_in : State → (List ℕ → List Value → Bool) → (ℕ → Point) → Names
-names_in s related points = record {
+-- The values of a pair of a relation belong to it.
+abbrev pub names_in : State → (ℕ → Point) → Names
+names_in s points = record {
   value = λ w. option_map_or (value_at s points) (cell_called s w) (Text w);
-  related = related;
+  related = λ w vs. option_map_or (is_pair (element_word s) vs) (relation_called s w) false;
 }

@@ -7,6 +7,7 @@ ghost use Rattle.prop_demands.specs.inner.Glossaries.{IsWhole, span_in};
 use prop_cells::Cells;
 use prop_lattice::{B, Info, Kind, Span};
 use prop_procedures::Kinded;
+use prop_terms::{Infix, Term};
 use prop_vocabulary::Vocabulary;
 
 /// How many domains there are up to the one of a kind.
@@ -22,7 +23,7 @@ fn domain_after(words: &Vocabulary, kinded: Kinded) -> usize
 }
 
 /// How many domains are there at the least: those up to the last that a cell is of.
-pub(crate) fn domains_of(words: &Vocabulary, cells: &Cells) -> usize
+fn domains_of(words: &Vocabulary, cells: &Cells) -> usize
     requires { All (IsSized words.now) cells.now.kinds }
     ensures there { result ≤ length words.now.domains }
 {
@@ -33,6 +34,46 @@ pub(crate) fn domains_of(words: &Vocabulary, cells: &Cells) -> usize
         domains = domains.max(domain_after(words, cells.kind(cell)));
     }
     domains
+}
+
+/// How many domains there are up to the later one of a relation with this name.
+fn domains_related(words: &Vocabulary, name: &[u8]) -> usize
+    ensures { result ≤ length words.now.domains }
+{
+    let Ok(name) = str::from_utf8(name) else {
+        return 0;
+    };
+    match words.relation(name) {
+        Some(relation) => {
+            let (from, to) = (relation.from(), relation.to());
+            usize::from(from.domain.max(to.domain)) + 1
+        }
+        None => 0,
+    }
+}
+
+/// How many domains there are up to the last of a relation that a term names.
+fn domains_in(words: &Vocabulary, term: &Term<'_>) -> usize
+    ensures there { result ≤ length words.now.domains }
+{
+    match term {
+        Term::One(_, under) => domains_in(words, under),
+        Term::Two(Infix::In, left, right) => match &**right {
+            Term::Name(name) => domains_in(words, left).max(domains_related(words, name)),
+            _ => domains_in(words, left),
+        },
+        Term::Two(_, left, right) => domains_in(words, left).max(domains_in(words, right)),
+        _ => 0,
+    }
+}
+
+/// How many domains there are at the least: those up to the last that a cell is of, or a relation
+/// that a term names.
+pub(crate) fn domains_there(words: &Vocabulary, cells: &Cells, term: &Term<'_>) -> usize
+    requires { All (IsSized words.now) cells.now.kinds }
+    ensures { result ≤ length words.now.domains }
+{
+    domains_of(words, cells).max(domains_in(words, term))
 }
 
 /// Each vocabulary is whole.

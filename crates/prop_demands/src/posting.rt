@@ -29,7 +29,8 @@ fn refusal_of(why: Why) -> Refusal
         Why::NotInDomain => Refusal::NotInTheDomain,
         Why::WrongKind => Refusal::WrongKind,
         Why::OutOfRange | Why::MayBeZero | Why::MayBeMissing => Refusal::NotANumber,
-        Why::TwoReadings | Why::WrongForm | Why::NotYet => Refusal::WrongForm,
+        Why::NoSuchRelation => Refusal::NoSuchRelation,
+        Why::TwoReadings | Why::WrongForm => Refusal::WrongForm,
     }
 }
 

@@ -6,6 +6,7 @@ use prop_cells::Cells;
 use prop_lattice::Span;
 use prop_meaning::{Known, Words};
 use prop_premises::Worldview;
+use prop_sets::Relation;
 use prop_vocabulary::{CellNames, Vocabulary};
 
 /// What is there, as words of an expression speak of it.
@@ -44,6 +45,13 @@ impl Words for Glossary<'_> {
     fn cell(&self, word: &[u8]) -> Option<usize> {
         match str::from_utf8(word) {
             Ok(name) => self.names.find(name),
+            Err(_) => None,
+        }
+    }
+
+    fn relation(&self, word: &[u8]) -> Option<&Relation> {
+        match str::from_utf8(word) {
+            Ok(name) => self.words.relation(name),
             Err(_) => None,
         }
     }

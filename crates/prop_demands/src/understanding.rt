@@ -6,7 +6,7 @@ ghost use Rattle.prop_terms.specs.Terms.{term_of};
 ghost use Rattle.prop_demands.specs.Refusing.{is_of_term};
 ghost use Rattle.prop_demands.specs.inner.Postings.{IsForeseenIn, IsUnderstoodIn};
 
-use crate::known::{all_numbers, domains_of, is_whole};
+use crate::known::{all_numbers, domains_there, is_whole};
 use crate::posting::{foreseen_of, posting};
 use crate::reading::Glossary;
 use prop_cells::Cells;
@@ -20,9 +20,10 @@ use std::alloc::Global;
 
 /// What a term that may hold becomes in a session that has these cells, by these names and words.
 ///
-/// Refused are with 4 what has two readings or can't be posted yet, with 6 a part whose value may
-/// lie beyond 10^18, with 9 a word that is no cell, with 13 a part of a wrong kind, with 15 a word
-/// that is no element there, and with 90 want of memory.
+/// Refused are with 4 what is of a form that can't be posted or has two readings, with 6 a part
+/// whose value may lie beyond 10^18, with 9 a word that is no cell, with 13 a part of a wrong kind,
+/// with 15 a word that is no element there, with 19 one that is no relation, and with 90 want of
+/// memory.
 pub fn understood(
     alloc: Global,
     names: &CellNames,
@@ -46,7 +47,7 @@ pub fn understood(
         cells,
         nobody: &nobody,
         whole: all_numbers(),
-        domains: domains_of(words, cells),
+        domains: domains_there(words, cells, term),
     };
     posting(alloc, &glossary, term)
 }
@@ -76,7 +77,7 @@ pub fn foreseen(
         cells,
         nobody: &nobody,
         whole: all_numbers(),
-        domains: domains_of(words, cells),
+        domains: domains_there(words, cells, term),
     };
     foreseen_of(alloc, &glossary, term)
 }

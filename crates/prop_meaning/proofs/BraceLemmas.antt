@@ -29,7 +29,7 @@ one_label (One op t) v e = refl
 one_label (Two op t u) v e = absurd (cc)
 one_label (Braces t) v e = refl
 
-or_point : (b c : Bool) → of_two Or (truth_point b) (truth_point c) ≡ truth_point (b || c)
+pub or_point : (b c : Bool) → of_two Or (truth_point b) (truth_point c) ≡ truth_point (b || c)
 or_point true true = refl
 or_point true false = refl
 or_point false true = refl
@@ -121,11 +121,11 @@ pub shows_words : (lexicon : Lexicon) (both : Kinded) (item t : Term) (x place :
     → Shows lexicon second truth_kind (Two between.In item (Braces t)) place
 shows_words lexicon both item t x place first second single ft g m = record {
   has = m.has;
-  worth_is = λ a related r.
+  worth_is = λ a r.
       let under = shows_grows lexicon first second both item x g ft in
-      let names = names_at lexicon related a in
+      let names = names_at lexicon a in
       ap (λ vs. truth (is_in names (Braces t) vs)) (each_single names item (worth names item) single)
-      ∙ (ap (λ v. truth (list_any (comparison between.Equal v) (labels t))) (under.worth_is a related r)
+      ∙ (ap (λ v. truth (list_any (comparison between.Equal v) (labels t))) (under.worth_is a r)
       ∙ (told lexicon r.words _ (is_among lexicon both (a x) (labels t)) refl
       ∙ ap (λ p. Some (value_as lexicon truth_kind p)) (sym (m.is a r))));
 }

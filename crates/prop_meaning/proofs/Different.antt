@@ -163,7 +163,7 @@ pub shows_different : (lexicon : Lexicon) (made : List Made) (t : Term) (place :
     → Shows lexicon made truth_kind (different_of t) place → Shows lexicon made truth_kind (One Different t) place
 shows_different lexicon made t place s = record {
   has = s.has;
-  worth_is = λ a related r. different_worth (names_at lexicon related a) t ∙ s.worth_is a related r;
+  worth_is = λ a r. different_worth (names_at lexicon a) t ∙ s.worth_is a r;
 }
 
 -- ---- cells

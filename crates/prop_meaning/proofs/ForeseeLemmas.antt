@@ -16,14 +16,14 @@ use Rattle.prop_meaning.proofs.Solving.{made_before, made_from}
 pub is_foreseen : (lexicon : Lexicon) (made : List Made) (place : ℕ) (known : Known) (kinded : Kinded) (t : Term)
     → IsSound lexicon made → known_at lexicon made place ≡ Some known → Shows lexicon made kinded t place
     → IsForeseen lexicon t known
-is_foreseen lexicon made place known kinded t sound at shows law related points fits =
+is_foreseen lexicon made place known kinded t sound at shows law points fits =
     let a = made_from lexicon.count made points in
     let r = runs lexicon made points sound law fits in
     let same : known.kinded ≡ kinded = kind_known (known_at lexicon made place) known kinded at shows.has in
-    let P : Kinded → Type 0 = λ k. worth (names_at lexicon related a) t ≡ Some (value_as lexicon k (a place)) in (
+    let P : Kinded → Type 0 = λ k. worth (names_at lexicon a) t ≡ Some (value_as lexicon k (a place)) in (
       a,
       λ i l. made_before lexicon.count made points i l,
       a place,
       (is_point lexicon made place known a sound r at).within,
-      subst P (sym same) (shows.worth_is a related r),
+      subst P (sym same) (shows.worth_is a r),
     )

@@ -73,7 +73,7 @@ on_truths P f p q h g =
 
 -- ---- what is the same
 
-elements_same : (lexicon : Lexicon) → IsLexicon lexicon → (domain i j : ℕ) → i < lexicon.size domain
+pub elements_same : (lexicon : Lexicon) → IsLexicon lexicon → (domain i j : ℕ) → i < lexicon.size domain
     → j < lexicon.size domain
     → bytes_eq (lexicon.element_word domain i) (lexicon.element_word domain j) ≡ (i == j)
 elements_same lexicon law domain i j h g =

@@ -121,7 +121,7 @@ pub shows_grows : (lexicon : Lexicon) (olds news : List Made) (kinded : Kinded) 
     → Grown lexicon olds news → Shows lexicon olds kinded t place → Shows lexicon news kinded t place
 shows_grows lexicon olds news kinded t place g h = record {
   has = has_grows lexicon olds news place kinded g.grows h.has;
-  worth_is = λ a related r. h.worth_is a related (runs_back lexicon olds news a g.grows r);
+  worth_is = λ a r. h.worth_is a (runs_back lexicon olds news a g.grows r);
 }
 
 good_grows : (lexicon : Lexicon) (olds news : List Made) (place : ℕ) (m : Made) → Grows olds news

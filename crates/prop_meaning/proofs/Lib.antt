@@ -17,3 +17,4 @@ pub mod Naming
 pub mod Different
 pub mod ForeseeLemmas
 pub mod TableLemmas
+pub mod RelatingLemmas

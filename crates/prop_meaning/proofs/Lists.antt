@@ -149,11 +149,11 @@ pub shows_alone : (lexicon : Lexicon) (op : Prefix) (t : Term) (x place : ℕ) (
     → Shows lexicon second number_kind (One op t) place
 shows_alone lexicon op t x place first second k single ft g m = record {
   has = m.has;
-  worth_is = λ a related r.
+  worth_is = λ a r.
       let under = shows_grows lexicon first second (kind_within op) t x g ft in
-      let names = names_at lexicon related a in
+      let names = names_at lexicon a in
       ap (applied op (worth names t)) (each_single names t (worth names t) single)
-      ∙ (ap (λ v. applied op (worth names t) (v ∷ [])) (under.worth_is a related r)
+      ∙ (ap (λ v. applied op (worth names t) (v ∷ [])) (under.worth_is a r)
       ∙ (alone_means lexicon r.words op k (a x)
       (is_proper lexicon second x (kind_within op) a g.sound r under.has).of_kind (worth names t)
       ∙ ap (λ p. Some (value_as lexicon number_kind p)) (sym (m.is a r))));
@@ -166,18 +166,18 @@ pub shows_gathered : (lexicon : Lexicon) (op : Prefix) (t u : Term) (x y place :
     → Shows lexicon third number_kind (One op (Two between.Comma t u)) place
 shows_gathered lexicon op t u x y place first second third k ft g fu h m = record {
   has = m.has;
-  worth_is = λ a related r.
+  worth_is = λ a r.
       let left = shows_grows lexicon second third number_kind (One op t) x h
       (shows_grows lexicon first second number_kind (One op t) x g ft) in
       let right = shows_grows lexicon second third (kind_within op) u y h fu in
-      let names = names_at lexicon related a in
+      let names = names_at lexicon a in
       let whole = worth names (Two between.Comma t u) in
       let before = each names t (worth names t) in
-      ap (λ v. applied op whole (before ++ v ∷ [])) (right.worth_is a related r)
+      ap (λ v. applied op whole (before ++ v ∷ [])) (right.worth_is a r)
       ∙ (more_means lexicon r.words op k (a x) (a y)
       (is_proper lexicon third x number_kind a h.sound r left.has).of_kind
       (is_proper lexicon third y (kind_within op) a h.sound r right.has).of_kind
-      (worth names t) whole before (left.worth_is a related r)
+      (worth names t) whole before (left.worth_is a r)
       ∙ ap (λ p. Some (value_as lexicon number_kind p)) (sym (m.is a r)));
 }
 

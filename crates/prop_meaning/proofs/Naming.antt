@@ -40,7 +40,7 @@ pub shows_number : (lexicon : Lexicon) (made : List Made) (n place : ℕ) (z : �
     → Makes lexicon made number_kind (λ a. Number z) place → Shows lexicon made number_kind (terms.Number n) place
 shows_number lexicon made n place z e m = record {
   has = m.has;
-  worth_is = λ a related r. ap (λ p. Some (value_as lexicon number_kind p)) (sym (ap Number e) ∙ sym (m.is a r));
+  worth_is = λ a r. ap (λ p. Some (value_as lexicon number_kind p)) (sym (ap Number e) ∙ sym (m.is a r));
 }
 
 -- ---- elements and symbols
@@ -105,7 +105,7 @@ pub shows_cell : (lexicon : Lexicon) (made : List Made) (place : ℕ) (word : Li
     → Shows lexicon made kinded (terms.Name word) place
 shows_cell lexicon made place word kinded e l k = record {
   has = has_given (nat_lt place lexicon.count) place lexicon.count (lexicon.known place) _ kinded refl l k;
-  worth_is = λ a related r.
+  worth_is = λ a r.
       let at : Option ℕ → Value = λ o.
       option_map_or (λ i. value_as lexicon (lexicon.known i).kinded (a i)) o (Text word) in
       ap (λ o. Some (at o)) e ∙ ap (λ n. Some (value_as lexicon n (a place))) k;
@@ -117,7 +117,7 @@ pub shows_label : (lexicon : Lexicon) (made : List Made) (place : ℕ) (word : L
     (terms.Name word) place
 shows_label lexicon made place word kinded e names = record {
   has = names.has;
-  worth_is = λ a related r.
+  worth_is = λ a r.
       let at : Option ℕ → Value = λ o.
       option_map_or (λ i. value_as lexicon (lexicon.known i).kinded (a i)) o (Text word) in
       ap (λ o. Some (at o)) e ∙ ap Some (names.is a r);

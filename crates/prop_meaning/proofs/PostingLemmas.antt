@@ -110,9 +110,9 @@ is_value lexicon made posted place kinded t sound are shows = record {
       let P : ℕ → Type 0 = λ i. IsPointOf kinded.kind kinded.size (points i) in
       subst P (sym are.result) (is_proper lexicon made place kinded points sound
       (runs_solved lexicon made posted place points sound are law fits s) shows.has).of_kind;
-  worth_is = λ law related points fits s.
-      let P : ℕ → Type 0 = λ i. worth (names_at lexicon related points) t ≡ Some (value_as lexicon kinded (points i)) in
-      subst P (sym are.result) (shows.worth_is points related
+  worth_is = λ law points fits s.
+      let P : ℕ → Type 0 = λ i. worth (names_at lexicon points) t ≡ Some (value_as lexicon kinded (points i)) in
+      subst P (sym are.result) (shows.worth_is points
       (runs_solved lexicon made posted place points sound are law fits s));
 }
 
@@ -132,9 +132,9 @@ pub says_same : (lexicon : Lexicon) (posted : Posted) (t : Term) → IsValue lex
     → SaysSame lexicon posted t
 says_same lexicon posted t v = record {
   none_lost = v.none_lost;
-  none_wrong = λ law related points fits s.
+  none_wrong = λ law points fits s.
       let yes = yes_is lexicon law (points posted.result) (v.of_kind law points fits s) in
-      let e = ap holds (v.worth_is law related points fits s) in
+      let e = ap holds (v.worth_is law points fits s) in
       (λ p. e ∙ yes.0 p, λ h. yes.1 (sym e ∙ h));
 }
 

@@ -65,9 +65,9 @@ pub shows_power : (lexicon : Lexicon) (t : Term) (n x place : ℕ) (first second
     → Shows lexicon second number_kind (Two between.Power t (terms.Number n)) place
 shows_power lexicon t n x place first second ft g m = record {
   has = m.has;
-  worth_is = λ a related r.
+  worth_is = λ a r.
       let under = shows_grows lexicon first second number_kind t x g ft in
-      ap (of_one (λ z. power z n)) (under.worth_is a related r)
+      ap (of_one (λ z. power z n)) (under.worth_is a r)
       ∙ (on_number 0 (λ p. of_one (λ z. power z n) (Some (value_as lexicon number_kind p))
       ≡ Some (value_as lexicon number_kind (power_point n p))) (λ u. refl) (a x)
       (is_proper lexicon second x number_kind a g.sound r under.has).of_kind

@@ -51,14 +51,14 @@ pub shows_two : (lexicon : Lexicon) (op : Infix) (both : Kinded) (t u : Term) (x
     → Shows lexicon third (kind_of op) (Two op t u) place
 shows_two lexicon op both t u x y place first second third k ft g fu h m = record {
   has = m.has;
-  worth_is = λ a related r.
+  worth_is = λ a r.
       let left = shows_grows lexicon second third both t x h (shows_grows lexicon first second both t x g ft) in
       let right = shows_grows lexicon second third both u y h fu in
-      let names = names_at lexicon related a in
+      let names = names_at lexicon a in
       let value : Point → Value = value_as lexicon (kind_of op) in
       worth_two names op t u both k
-      ∙ (ap (λ v. combined op v (worth names u)) (left.worth_is a related r)
-      ∙ (ap (combined op (Some (value_as lexicon both (a x)))) (right.worth_is a related r)
+      ∙ (ap (λ v. combined op v (worth names u)) (left.worth_is a r)
+      ∙ (ap (combined op (Some (value_as lexicon both (a x)))) (right.worth_is a r)
       ∙ (formula_means lexicon r.words op both (a x) (a y) k
       (is_proper lexicon third x both a h.sound r left.has) (is_proper lexicon third y both a h.sound r right.has)
       (subst (IsProper lexicon (kind_of op)) (m.is a r) (is_proper lexicon third place (kind_of op) a h.sound r m.has))
@@ -84,10 +84,10 @@ pub shows_negative : (lexicon : Lexicon) (t : Term) (x place : ℕ) (first secon
     number_kind (One before.Negated t) place
 shows_negative lexicon t x place first second ft g m = record {
   has = m.has;
-  worth_is = λ a related r.
+  worth_is = λ a r.
       let under = shows_grows lexicon first second number_kind t x g ft in
-      let names = names_at lexicon related a in
-      ap (λ v. applied before.Negated v (each names t (worth names t))) (under.worth_is a related r)
+      let names = names_at lexicon a in
+      ap (λ v. applied before.Negated v (each names t (worth names t))) (under.worth_is a r)
       ∙ (negative_means lexicon (each names t (worth names t)) (a x)
       (is_proper lexicon second x number_kind a g.sound r under.has).of_kind
       ∙ ap (λ p. Some (value_as lexicon number_kind p)) (sym (m.is a r)));
@@ -106,10 +106,10 @@ pub shows_abs : (lexicon : Lexicon) (t : Term) (x place : ℕ) (first second : L
     number_kind (One before.Abs t) place
 shows_abs lexicon t x place first second ft g m = record {
   has = m.has;
-  worth_is = λ a related r.
+  worth_is = λ a r.
       let under = shows_grows lexicon first second number_kind t x g ft in
-      let names = names_at lexicon related a in
-      ap (λ v. applied before.Abs v (each names t (worth names t))) (under.worth_is a related r)
+      let names = names_at lexicon a in
+      ap (λ v. applied before.Abs v (each names t (worth names t))) (under.worth_is a r)
       ∙ (abs_means lexicon (each names t (worth names t)) (a x)
       (is_proper lexicon second x number_kind a g.sound r under.has).of_kind
       ∙ ap (λ p. Some (value_as lexicon number_kind p)) (sym (m.is a r)));
@@ -133,10 +133,10 @@ pub shows_not : (lexicon : Lexicon) (t : Term) (x place : ℕ) (first second : L
     truth_kind (One before.Not t) place
 shows_not lexicon t x place first second ft g m = record {
   has = m.has;
-  worth_is = λ a related r.
+  worth_is = λ a r.
       let under = shows_grows lexicon first second truth_kind t x g ft in
-      let names = names_at lexicon related a in
-      ap (λ v. applied before.Not v (each names t (worth names t))) (under.worth_is a related r)
+      let names = names_at lexicon a in
+      ap (λ v. applied before.Not v (each names t (worth names t))) (under.worth_is a r)
       ∙ (not_means lexicon r.words (each names t (worth names t)) (a x)
       (is_proper lexicon second x truth_kind a g.sound r under.has).of_kind
       ∙ ap (λ p. Some (value_as lexicon truth_kind p)) (sym (m.is a r)));
@@ -179,19 +179,19 @@ pub shows_choice : (lexicon : Lexicon) (kinded : Kinded) (test left right : Term
     → Shows lexicon fourth kinded (One before.If (Two between.Then test (Two between.Else left right))) place
 shows_choice lexicon kinded test left right t x y place first second third fourth ft g fx h fy i m = record {
   has = m.has;
-  worth_is = λ a related r.
+  worth_is = λ a r.
       let st = shows_grows lexicon third fourth truth_kind test t i
       (shows_grows lexicon second third truth_kind test t h
       (shows_grows lexicon first second truth_kind test t g ft)) in
       let sx = shows_grows lexicon third fourth kinded left x i (shows_grows lexicon second third kinded left x h fx) in
       let sy = shows_grows lexicon third fourth kinded right y i fy in
-      let names = names_at lexicon related a in
+      let names = names_at lexicon a in
       let value : Point → Value = value_as lexicon kinded in
-      ap (λ v. cond (holds v) (worth names left) (worth names right)) (st.worth_is a related r)
+      ap (λ v. cond (holds v) (worth names left) (worth names right)) (st.worth_is a r)
       ∙ (ap (λ v. cond (holds (Some (value_as lexicon truth_kind (a t)))) v (worth names right))
-      (sx.worth_is a related r)
+      (sx.worth_is a r)
       ∙ (ap (λ v. cond (holds (Some (value_as lexicon truth_kind (a t)))) (Some (value (a x))) v)
-      (sy.worth_is a related r)
+      (sy.worth_is a r)
       ∙ (choice_means lexicon r.words kinded (a t) (a x) (a y)
       (is_proper lexicon fourth t truth_kind a i.sound r st.has).of_kind
       ∙ ap (λ p. Some (value p)) (sym (m.is a r)))));
@@ -242,22 +242,22 @@ pub shows_range : (lexicon : Lexicon) (item low high : Term) (x from end place :
     → Shows lexicon fourth truth_kind (Two between.In item (Two between.UpTo low high)) place
 shows_range lexicon item low high x from end place first second third fourth single ft g fx h fy i m = record {
   has = m.has;
-  worth_is = λ a related r.
+  worth_is = λ a r.
       let st = shows_grows lexicon third fourth number_kind item x i
       (shows_grows lexicon second third number_kind item x h
       (shows_grows lexicon first second number_kind item x g ft)) in
       let sx = shows_grows lexicon third fourth number_kind low from i
       (shows_grows lexicon second third number_kind low from h fx) in
       let sy = shows_grows lexicon third fourth number_kind high end i fy in
-      let names = names_at lexicon related a in
+      let names = names_at lexicon a in
       let v : Point → Option Value = λ p. Some (value_as lexicon number_kind p) in
       ap (λ vs. truth (is_in names (Two between.UpTo low high) vs)) (each_single names item (worth names item) single)
       ∙ (ap (λ w. truth (comparison between.AtMost (worth names low) w && comparison between.AtMost
-      w (worth names high))) (st.worth_is a related r)
+      w (worth names high))) (st.worth_is a r)
       ∙ (ap (λ w. truth (comparison between.AtMost w (v (a x)) && comparison between.AtMost
-      (v (a x)) (worth names high))) (sx.worth_is a related r)
+      (v (a x)) (worth names high))) (sx.worth_is a r)
       ∙ (ap (λ w. truth (comparison between.AtMost (v (a from)) (v (a x)) && comparison
-      between.AtMost (v (a x)) w)) (sy.worth_is a related r)
+      between.AtMost (v (a x)) w)) (sy.worth_is a r)
       ∙ (three_numbers lexicon r.words (a x) (a from) (a end)
       (is_proper lexicon fourth x number_kind a i.sound r st.has).of_kind
       (is_proper lexicon fourth from number_kind a i.sound r sx.has).of_kind

@@ -76,16 +76,16 @@ pub finds_more : (lexicon : Lexicon) (lookup : Lookup) (t s : Term) (z place : �
     → Finds lexicon second lookup (Two between.Comma t s) place
 finds_more lexicon lookup t s z place first second f g c = record {
   has = c.has;
-  is = λ a related r k. found_in (names_at lexicon related a) t s (key_of lexicon lookup a)
-      (found_at lexicon lookup a z) (found_at lexicon lookup a place) k (c.is a related r)
-      (λ e. f.is a related (runs_back lexicon first second a g.grows r) e);
+  is = λ a r k. found_in (names_at lexicon a) t s (key_of lexicon lookup a)
+      (found_at lexicon lookup a z) (found_at lexicon lookup a place) k (c.is a r)
+      (λ e. f.is a (runs_back lexicon first second a g.grows r) e);
 }
 
 pub finds_row : (lexicon : Lexicon) (lookup : Lookup) (t u : Term) (place : ℕ) (made : List Made)
     → Shows lexicon made lookup.kinded u place → Finds lexicon made lookup (Two between.Colon t u) place
 finds_row lexicon lookup t u place made s = record {
   has = s.has;
-  is = λ a related r k. ap (λ b. cond b (worth (names_at lexicon related a) u) None) k ∙ s.worth_is a related r;
+  is = λ a r k. ap (λ b. cond b (worth (names_at lexicon a) u) None) k ∙ s.worth_is a r;
 }
 
 pub chooses_more : (lexicon : Lexicon) (lookup : Lookup) (t s : Term) (z y place : ℕ) (first second : List Made)
@@ -93,12 +93,12 @@ pub chooses_more : (lexicon : Lexicon) (lookup : Lookup) (t s : Term) (z y place
     → Chooses lexicon second lookup (Two between.Comma t s) z place
 chooses_more lexicon lookup t s z y place first second f g c = record {
   has = c.has;
-  is = λ a related r.
-      let names = names_at lexicon related a in
+  is = λ a r.
+      let names = names_at lexicon a in
       let v = key_of lexicon lookup a in
       more_or v (rows names t) (rows names s) (found_at lexicon lookup a z)
-      ∙ (ap (looked_or v (rows names t)) (f.is a related (runs_back lexicon first second a g.grows r))
-      ∙ c.is a related r);
+      ∙ (ap (looked_or v (rows names t)) (f.is a (runs_back lexicon first second a g.grows r))
+      ∙ c.is a r);
 }
 
 or_none : (b : Bool) → b || false ≡ b
@@ -120,12 +120,12 @@ pub chooses_row : (lexicon : Lexicon) (lookup : Lookup) (t u : Term) (which y z 
     → Chooses lexicon third lookup (Two between.Colon t u) z place
 chooses_row lexicon lookup t u which y z place first second third mt g fu h m = record {
   has = m.has;
-  is = λ a related r.
+  is = λ a r.
       let second_runs = runs_back lexicon second third a h.grows r in
       let first_runs = runs_back lexicon first second a g.grows second_runs in
       let is_it = comparison between.Equal (key_of lexicon lookup a) (label t) in
       let it : a which ≡ truth_point is_it = mt.is a first_runs ∙ ap truth_point (or_none is_it) in
-      ap (λ w. cond is_it w (found_at lexicon lookup a z)) (fu.worth_is a related second_runs)
+      ap (λ w. cond is_it w (found_at lexicon lookup a z)) (fu.worth_is a second_runs)
       ∙ (chosen_is lexicon lookup.kinded is_it (a y) (a z)
       ∙ ap (λ p. Some (value_as lexicon lookup.kinded p)) (sym (m.is a r ∙ ap (λ p. chosen p (a y) (a z)) it)));
 }
@@ -136,10 +136,10 @@ pub shows_table : (lexicon : Lexicon) (lookup : Lookup) (item t : Term) (place :
     → Shows lexicon second lookup.kinded (One before.Element (Two between.Semicolon item t)) place
 shows_table lexicon lookup item t place first second s keys g f = record {
   has = f.has;
-  worth_is = λ a related r.
+  worth_is = λ a r.
       let runs = runs_back lexicon first second a g.grows r in
-      ap (λ v. looked_up v (rows (names_at lexicon related a) t)) (s.worth_is a related runs)
-      ∙ f.is a related r (keys a runs);
+      ap (λ v. looked_up v (rows (names_at lexicon a) t)) (s.worth_is a runs)
+      ∙ f.is a r (keys a runs);
 }
 
 -- ---- labels

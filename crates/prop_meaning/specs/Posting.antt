@@ -1,11 +1,11 @@
 -- What a term becomes, which is called posted: fresh cells, acts and constants. And what it means
 -- that this says the same as the term.
-use Rattle.std.specs.Prelude.{◌≡◌, ◌↔◌, ℕ, ◌+◌, ◌<◌, List, Bool, IsTrue, Some, slice_get}
+use Rattle.std.specs.Prelude.{◌≡◌, ◌↔◌, ℕ, ◌+◌, ◌<◌, List, IsTrue, Some, slice_get}
 use Rattle.std.specs.List.{AllByRecursion}
 use Rattle.prop_lattice.specs.Points.{Point, Element, Holds, IsPointOf}
 use Rattle.prop_procedures.specs.declared.shape.Kinded.{Kinded}
 use Rattle.prop_procedures.specs.declared.shape.Param.{Param}
-use Rattle.prop_terms.specs.Meaning.{Value, holds, worth}
+use Rattle.prop_terms.specs.Meaning.{holds, worth}
 use Rattle.prop_terms.specs.Terms.{Term}
 use Rattle.prop_meaning.specs.Acts.{RelatedBy, TellsBy, HoldsAt}
 use Rattle.prop_meaning.specs.Words.{Lexicon, IsLexicon, Fits, names_at, value_as}
@@ -36,16 +36,16 @@ pub record IsValue (lexicon : Lexicon) (posted : Posted) (kinded : Kinded) (t : 
   pub of_kind : IsLexicon lexicon → (points : ℕ → Point) → Fits lexicon points
       → Solves TellsBy lexicon.count posted points
       → IsPointOf kinded.kind kinded.size (points posted.result)
-  pub worth_is : IsLexicon lexicon → (related : List ℕ → List Value → Bool) (points : ℕ → Point)
-      → Fits lexicon points → Solves TellsBy lexicon.count posted points
-      → worth (names_at lexicon related points) t
+  pub worth_is : IsLexicon lexicon → (points : ℕ → Point) → Fits lexicon points
+      → Solves TellsBy lexicon.count posted points
+      → worth (names_at lexicon points) t
       ≡ Some (value_as lexicon kinded (points posted.result))
 
 -- Wherever what was posted is solved, the point of the result is `yes` just where the term holds.
 -- No points of the given cells are lost.
 pub record SaysSame (lexicon : Lexicon) (posted : Posted) (t : Term) : Type 0 where
   pub none_lost : IsLexicon lexicon → LosesNone lexicon posted
-  pub none_wrong : IsLexicon lexicon → (related : List ℕ → List Value → Bool) (points : ℕ → Point)
-      → Fits lexicon points → Solves TellsBy lexicon.count posted points
+  pub none_wrong : IsLexicon lexicon → (points : ℕ → Point) → Fits lexicon points
+      → Solves TellsBy lexicon.count posted points
       → (points posted.result ≡ Element 0)
-      ↔ IsTrue (holds (worth (names_at lexicon related points) t))
+      ↔ IsTrue (holds (worth (names_at lexicon points) t))

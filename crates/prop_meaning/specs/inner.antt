@@ -5,3 +5,4 @@ pub mod Formulas
 pub mod Lists
 pub mod Expanding
 pub mod Tables
+pub mod Relating

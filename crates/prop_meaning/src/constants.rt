@@ -1,8 +1,9 @@
 //! Cells of constants, and those that words name.
-ghost use Rattle.std.specs.Prelude.{◌≡◌, IfOk, OnOk};
-ghost use Rattle.prop_lattice.specs.Points.{Number};
+ghost use Rattle.std.specs.Prelude.{◌≡◌, ◌<◌, IfOk, OnOk};
+ghost use Rattle.prop_lattice.specs.Points.{Element, Number};
 ghost use Rattle.prop_terms.specs.Terms as terms;
-ghost use Rattle.prop_meaning.specs.inner.Drafts.{IsSound, Grown, Makes, Names, Shows, number_kind};
+ghost use Rattle.prop_meaning.specs.inner.Drafts.{IsElement, IsSound, Grown, Makes, Names};
+ghost use Rattle.prop_meaning.specs.inner.Drafts.{Shows, number_kind};
 
 use crate::draft::{Made, placed};
 use crate::fault::Why;
@@ -39,6 +40,25 @@ fn constant(kinded: Kinded) -> Result<Known, Why>
         Some(span) => Ok(Known { kinded, span }),
         None => Err(Why::OutOfRange),
     }
+}
+
+/// The cell of an element of this kind.
+pub(crate) fn element_at<W: Words>(
+    words: &W,
+    made: &mut Vec<Made>,
+    kinded: Kinded,
+    i: u8,
+) -> Result<usize, Why>
+    requires sound { IsSound (W.lexicon words.now) made.old.items }
+    requires few { i < 64 }
+    requires there { IsElement (W.lexicon words.now) kinded i }
+    ensures grown { OnOk result (Grown (W.lexicon words.now) made.old.items made.new.items) }
+    ensures makes { IfOk result
+        (Makes (W.lexicon words.now) made.new.items kinded (λ a. Element i)) }
+{
+    let known = constant(kinded)?;
+    let step = Step::Element(i);
+    placed(words, made, Made { step, known })
 }
 
 /// The cell of an element that has this name.

@@ -214,7 +214,7 @@ pub(crate) fn put_acts(acts: &mut Vec<Act>, step: Step, place: usize) -> Result<
 }
 
 /// The bits of an element.
-fn bit(i: u8) -> u64
+pub(crate) fn bit(i: u8) -> u64
     ensures { result ≡ cond (nat_lt i 64) (2 ^ i) 0 }
 {
     if i < 64 { 1 << i } else { 0 }

@@ -21,10 +21,10 @@ pub enum Why {
     MayBeZero,
     /// A table may have no row for it.
     MayBeMissing,
+    /// The word names no relation.
+    NoSuchRelation,
     /// It stands where none of its form may.
     WrongForm,
-    /// It is an expression that can't be posted yet: `in` a relation.
-    NotYet,
 }
 
 /// Why a term is refused, and which part of it is wrong.

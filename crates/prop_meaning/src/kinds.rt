@@ -102,6 +102,6 @@ pub(crate) fn sides<W: Words>(
         | Infix::AtLeast => Ok(NUMBER),
         Infix::And | Infix::Or | Infix::Xor | Infix::Iff | Infix::Implies => Ok(TRUTH),
         Infix::Equal | Infix::Unequal => kind_of_both(words, left, right),
-        _ => Err(Why::NotYet),
+        _ => Err(Why::WrongForm),
     }
 }

@@ -8,8 +8,7 @@
 //!
 //! Each fresh cell is made of cells before it, and what is made of the same is one cell. Refused
 //! are a part whose value may lie beyond 10^18, a division by what may be zero (`Why::MayBeZero`),
-//! what a table may have no row for (`Why::MayBeMissing`), and what can't be posted yet
-//! (`Why::NotYet`): what belongs to a relation.
+//! and what a table may have no row for (`Why::MayBeMissing`).
 #![tactic(auto)]
 
 pub mod acts;
@@ -28,6 +27,7 @@ mod making;
 pub mod palette;
 pub mod posting;
 mod powers;
+mod relating;
 mod spans;
 mod steps;
 mod tables;

@@ -21,6 +21,7 @@ use crate::gathering::{alone, gathered, is_different, is_gathering, kind_within}
 use crate::kinds::{kind_of_term, sides};
 use crate::making::{NUMBER, TRUTH, choice, is_same_kind};
 use crate::powers::{is_power, power};
+use crate::relating::{is_pair_in, related, side_kind};
 use crate::tables::{Lookup, has_all_keys, is_label, is_lookup, is_row};
 use crate::words::Words;
 use prop_procedures::Kinded;
@@ -90,6 +91,7 @@ fn between_two<'t, 'a, W: Words>(
     if matches!(*op, Infix::In) {
         return match &**right {
             Term::Braces(_) => in_words(words, made, term, kinded),
+            Term::Name(_) => in_relation(words, made, term, kinded),
             _ => in_range(words, made, term, kinded),
         };
     }
@@ -147,7 +149,7 @@ fn before_one<'t, 'a, W: Words>(
     }
     if !is_taken(*op) {
         return Err(Fault {
-            why: Why::NotYet,
+            why: Why::WrongForm,
             part: term,
         });
     }
@@ -215,18 +217,18 @@ fn in_range<'t, 'a, W: Words>(
     ensures shows { IfOk result
         (Shows (W.lexicon words.now) made.new.items kinded (term_of term.now)) }
 {
-    let later = Fault {
-        why: Why::NotYet,
+    let wrong = Fault {
+        why: Why::WrongForm,
         part: term,
     };
     let Term::Two(op, item, range) = term else {
-        return Err(later);
+        return Err(wrong);
     };
     let Term::Two(to, low, high) = &**range else {
-        return Err(later);
+        return Err(wrong);
     };
     if !is_range(*op, *to) || is_list(item) {
-        return Err(later);
+        return Err(wrong);
     }
     if !is_same_kind(TRUTH, kinded) {
         return Err(Fault {
@@ -283,6 +285,55 @@ fn in_words<'t, 'a, W: Words>(
     };
     let x = translated(words, made, item, both)?;
     among(words, made, x, both, labels)
+}
+
+/// The same of what two terms are worth that may be a pair of a relation.
+#[cycle(translating)]
+fn in_relation<'t, 'a, W: Words>(
+    words: &W,
+    made: &mut Vec<Made>,
+    term: &'t Term<'a>,
+    kinded: Kinded,
+) -> Result<usize, Fault<'t, 'a>>
+    requires sound { IsSound (W.lexicon words.now) made.old.items }
+    ensures grown { OnOk result (Grown (W.lexicon words.now) made.old.items made.new.items) }
+    ensures shows { IfOk result
+        (Shows (W.lexicon words.now) made.new.items kinded (term_of term.now)) }
+{
+    let wrong = Fault {
+        why: Why::WrongForm,
+        part: term,
+    };
+    let Term::Two(op, items, range) = term else {
+        return Err(wrong);
+    };
+    let Term::Two(comma, left, right) = &**items else {
+        return Err(wrong);
+    };
+    let Term::Name(word) = &**range else {
+        return Err(wrong);
+    };
+    if !is_pair_in(*op, *comma) || is_list(left) {
+        return Err(wrong);
+    }
+    if !is_same_kind(TRUTH, kinded) {
+        return Err(Fault {
+            why: Why::WrongKind,
+            part: term,
+        });
+    }
+    let Some(relation) = words.relation(word) else {
+        return Err(Fault {
+            why: Why::NoSuchRelation,
+            part: range,
+        });
+    };
+    let x = translated(words, made, left, side_kind(relation.from()))?;
+    let y = translated(words, made, right, side_kind(relation.to()))?;
+    match related(words, made, relation, x, y) {
+        Ok(place) => Ok(place),
+        Err(why) => Err(Fault { why, part: term }),
+    }
 }
 
 /// The same of a power.
@@ -345,7 +396,7 @@ fn of_list<'t, 'a, W: Words>(
     };
     if !is_gathering(*op) {
         return Err(Fault {
-            why: Why::NotYet,
+            why: Why::WrongForm,
             part: term,
         });
     }

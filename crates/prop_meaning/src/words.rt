@@ -1,8 +1,9 @@
 //! What the words of a term are.
-ghost use Rattle.std.specs.Prelude.{◌≡◌, ◌<◌, ◌≤◌, IfSome};
+ghost use Rattle.std.specs.Prelude.{◌≡◌, ◌<◌, ◌≤◌, IfSome, option_copied};
 ghost use Rattle.prop_meaning.specs.Words.{Lexicon};
 
 use crate::known::Known;
+use prop_sets::Relation;
 
 /// Who knows the words: of a session, its names.
 pub trait Words {
@@ -23,6 +24,10 @@ pub trait Words {
     fn cell(&self, word: &[u8]) -> Option<usize>
         ensures value { result ≡ (lexicon self.now).cell word.now }
         ensures given { IfSome result (λ place. place < (lexicon self.now).count) };
+
+    /// The relation that a word names.
+    fn relation(&self, word: &[u8]) -> Option<&Relation>
+        ensures { option_copied result ≡ (lexicon self.now).relation word.now };
 
     /// The number of a word among the elements of a domain.
     fn element(&self, domain: u16, word: &[u8]) -> Option<u8>

@@ -9,7 +9,7 @@ use Rattle.prop_numbers.specs.Sets.{set_of}
 use Rattle.prop_procedures.specs.Fitting.{kind_at}
 use Rattle.prop_vocabulary.specs.Cells.{CellNames, cell_named}
 use Rattle.prop_vocabulary.specs.Names.{number_in}
-use Rattle.prop_vocabulary.specs.Vocabulary.{Vocabulary, elements_of}
+use Rattle.prop_vocabulary.specs.Vocabulary.{Vocabulary, elements_of, relation_named}
 use Rattle.prop_contents.specs.Contents.{beliefs}
 use Rattle.prop_cells.specs.Data.{Data}
 use Rattle.prop_meaning.specs.Words.{Lexicon}
@@ -44,6 +44,7 @@ lexicon_in g = record {
     span = span_in g.whole (beliefs (set_of g.nobody) g.cells.contents place);
   };
   cell = λ w. cond (is_utf8 w) (cell_named g.names w) None;
+  relation = λ w. cond (is_utf8 w) (relation_named g.words w) None;
   element = λ domain w.
       cond (nat_lt domain g.domains) (number_in (elements_of g.words domain) w) None;
   symbol = λ w. cond (is_utf8 w) (number_in g.words.symbols w) None;

@@ -1,13 +1,13 @@
 -- Drafts: fresh cells in a row behind the given ones. Each is made by a step, of given cells and of
 -- fresh cells before it.
-use Rattle.std.specs.Prelude.{◌≡◌, ℕ, ◌+◌, ◌-◌, ◌<◌, List, cond, nat_lt, Option, Some, ⊤, Bool}
+use Rattle.std.specs.Prelude.{◌≡◌, ℕ, ◌+◌, ◌-◌, ◌<◌, List, cond, nat_lt, Option, Some, ⊤}
 use Rattle.std.specs.Prelude.{pos}
 use Rattle.std.specs.Prelude.{slice_get}
 use Rattle.std.specs.Option.{option_map}
 use Rattle.prop_lattice.specs.Points.{Point, Element, Number, IsPointOf}
 use Rattle.prop_lattice.specs.declared.info.Kind.TheVariants as kinds
 use Rattle.prop_procedures.specs.declared.shape.Kinded.{Kinded}
-use Rattle.prop_terms.specs.Meaning.{Value, Text, worth}
+use Rattle.prop_terms.specs.Meaning.{Text, worth}
 use Rattle.prop_terms.specs.Terms.{Term}
 use Rattle.prop_meaning.specs.Words.{Lexicon, IsLexicon, Fits, IsWithin, names_at, value_as}
 use Rattle.prop_meaning.specs.Words.{domain_of, LiesIn}
@@ -119,6 +119,10 @@ pub record IsProper (lexicon : Lexicon) (kinded : Kinded) (p : Point) : Type 0 w
   pub of_kind : IsPointOf kinded.kind kinded.size p
   pub named : IsNamed lexicon kinded p
 
+-- the element is one of the kind, and has a name
+abbrev pub IsElement : Lexicon → Kinded → ℕ → Type 0
+IsElement lexicon kinded i = IsLexicon lexicon → IsProper lexicon kinded (Element i)
+
 -- the point is as is known, and has a name
 pub record IsPoint (lexicon : Lexicon) (known : Known) (p : Point) : Type 0 where
   pub within : IsWithin known p
@@ -158,5 +162,5 @@ pub record Names (lexicon : Lexicon) (made : List Made) (kinded : Kinded) (word 
 pub record Shows (lexicon : Lexicon) (made : List Made) (kinded : Kinded) (t : Term)
     (place : ℕ) : Type 0 where
   pub has : Has lexicon made place kinded
-  pub worth_is : (a : ℕ → Point) (related : List ℕ → List Value → Bool) → Runs lexicon made a
-      → worth (names_at lexicon related a) t ≡ Some (value_as lexicon kinded (a place))
+  pub worth_is : (a : ℕ → Point) → Runs lexicon made a
+      → worth (names_at lexicon a) t ≡ Some (value_as lexicon kinded (a place))

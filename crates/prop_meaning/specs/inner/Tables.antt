@@ -37,15 +37,15 @@ HasAllKeys lexicon made lookup t =
 pub record Chooses (lexicon : Lexicon) (made : List Made) (lookup : Lookup) (t : Term)
     (z place : ℕ) : Type 0 where
   pub has : Has lexicon made place lookup.kinded
-  pub is : (a : ℕ → Point) (related : List ℕ → List Value → Bool) → Runs lexicon made a
-      → looked_or (key_of lexicon lookup a) (rows (names_at lexicon related a) t)
+  pub is : (a : ℕ → Point) → Runs lexicon made a
+      → looked_or (key_of lexicon lookup a) (rows (names_at lexicon a) t)
       (found_at lexicon lookup a z) ≡ found_at lexicon lookup a place
 
 -- the cell at the place shows what stands behind the label, where there is one
 pub record Finds (lexicon : Lexicon) (made : List Made) (lookup : Lookup) (t : Term)
     (place : ℕ) : Type 0 where
   pub has : Has lexicon made place lookup.kinded
-  pub is : (a : ℕ → Point) (related : List ℕ → List Value → Bool) → Runs lexicon made a
+  pub is : (a : ℕ → Point) → Runs lexicon made a
       → is_key t (key_of lexicon lookup a) ≡ true
-      → looked_up (key_of lexicon lookup a) (rows (names_at lexicon related a) t)
+      → looked_up (key_of lexicon lookup a) (rows (names_at lexicon a) t)
       ≡ found_at lexicon lookup a place

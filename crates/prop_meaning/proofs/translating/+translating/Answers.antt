@@ -1,6 +1,7 @@
-use Rattle.std.proofs.Common.{◌≡◌, ◌∙◌, ◌∷◌, [], true, false, cond, ap, refl, sym, subst}
+use Rattle.std.proofs.Common.{◌≡◌, ◌∙◌, ◌∷◌, [], Some, true, false, cond, ap, refl, sym, subst}
+use Rattle.std.specs.Prelude.{option_copied}
 use Rattle.std.proofs.lemmas.Result.{IfOk-weaker}
-use Rattle.prop_terms.specs.Terms.{Number, One, Two, Braces, term_of}
+use Rattle.prop_terms.specs.Terms.{Name, Number, One, Two, Braces, term_of}
 use Rattle.prop_terms.specs.declared.operators.Prefix.TheVariants.{If, Different, Element}
 use Rattle.prop_terms.specs.declared.operators.Infix.TheVariants.{And, Then, Else, In, UpTo, Power, Unequal}
 use Rattle.prop_terms.specs.declared.operators.Infix.TheVariants.{Colon, Comma, Semicolon}
@@ -8,6 +9,7 @@ use Rattle.prop_terms.specs.Meaning.{label}
 use Rattle.prop_meaning.specs.inner.Drafts.{Makes, Shows, number_kind, truth_kind}
 use Rattle.prop_meaning.specs.inner.Formulas as formulas
 use Rattle.prop_meaning.specs.inner.Lists.{is_among, unequal_to, different_of}
+use Rattle.prop_meaning.specs.inner.Relating.{side_kind}
 use Rattle.prop_meaning.specs.inner.Steps.{truth_point}
 use Rattle.prop_meaning.specs.inner.Tables.{Chooses, Finds, HasAllKeys}
 use Rattle.prop_meaning.specs.declared.tables.Lookup.{Lookup}
@@ -17,6 +19,7 @@ use Rattle.prop_meaning.proofs.Growing.{both_ok, grown_trans, has_grows, on_ok, 
 use Rattle.prop_meaning.proofs.BraceLemmas.{shows_words}
 use Rattle.prop_meaning.proofs.Lists.{is_comma, shows_alone, shows_gathered}
 use Rattle.prop_meaning.proofs.PowerLemmas.{shows_power}
+use Rattle.prop_meaning.proofs.RelatingLemmas.{shows_related}
 use Rattle.prop_meaning.proofs.Showing.{shows_one, shows_two, shows_choice, shows_range}
 use Rattle.prop_meaning.proofs.TableLemmas.{chooses_more, chooses_row, finds_more, finds_row, shows_table}
 use Rattle.prop_meaning.proofs.translating.+translating.Goals as goal
@@ -157,6 +160,47 @@ in_range-returns-in-Ok-clause-shows g t c =
     c.in_ok-end.ensures.grown c.in_ok-end.ensures.shows c.in-Ok.ensures.grown c.in-Ok.ensures.makes in
     subst (λ k. Shows lexicon fourth k (term_of c.args.term.now) c.in-Ok.place) kind
     (subst (λ u. Shows lexicon fourth truth_kind u c.in-Ok.place) (sym whole) all)
+
+pub in_relation-returns-in-Ok-clause-shows : goal.in_relation-returns-in-Ok-clause-shows
+in_relation-returns-in-Ok-clause-shows g t c =
+    let lexicon = g.W.Words.lexicon c.args.words.now in
+    let outer = c.in-Two in
+    let inner = c.in-Two-deref in
+    let word = c.in-Name.word.now in
+    let m = c.in-Some.relation.now in
+    let x = c.in_ok-x.x in
+    let y = c.in_ok-y.y in
+    let place = c.in-Ok.place in
+    let left = term_of c.deref-3.result.now in
+    let right = term_of c.deref-4.result.now in
+    let first = c.translated.new.made.items in
+    let second = c.translated-2.new.made.items in
+    let third = c.related.new.made.items in
+    let which = c.is_pair_in.ensures c.if-not-is_pair_in.false in
+    let items : term_of c.deref.result.now ≡ Two Comma left right = ap term_of inner.is
+    ∙ (ap (λ o. Two o (term_of inner.left.value) (term_of inner.right.value)) which.1
+    ∙ (ap (λ u. Two Comma (term_of u) (term_of inner.right.value)) (sym c.deref-3.ensures)
+    ∙ ap (λ u. Two Comma left (term_of u)) (sym c.deref-4.ensures))) in
+    let range : term_of c.deref-2.result.now ≡ Name word = ap term_of c.in-Name.is in
+    let whole : term_of c.args.term.now ≡ Two In (Two Comma left right) (Name word) = ap term_of outer.is
+    ∙ (ap (λ o. Two o (term_of outer.items.value) (term_of outer.range.value)) which.0
+    ∙ (ap (λ u. Two In (term_of u) (term_of outer.range.value)) (sym c.deref.ensures)
+    ∙ (ap (λ v. Two In v (term_of outer.range.value)) items
+    ∙ (ap (λ u. Two In (Two Comma left right) (term_of u)) (sym c.deref-2.ensures)
+    ∙ ap (Two In (Two Comma left right)) range)))) in
+    let single : formulas.is_list left ≡ false =
+    ap (λ u. formulas.is_list (term_of u)) (c.deref-3.ensures ∙ sym c.deref-else-not-is_pair_in.ensures)
+    ∙ (sym c.is_list.ensures ∙ c.if-is_list.false) in
+    let kind : truth_kind ≡ c.args.kinded = c.is_same_kind.ensures c.if-not-is_same_kind.false in
+    let named : lexicon.relation word ≡ Some m = sym c.relation.ensures ∙ ap option_copied c.in-Some.is in
+    let sx = subst (λ k. Shows lexicon first k left x) (c.side_kind.ensures ∙ ap side_kind c.from.ensures.from)
+    c.in_ok-x.ensures.shows in
+    let sy = subst (λ k. Shows lexicon second k right y) (c.side_kind-2.ensures ∙ ap side_kind c.to.ensures)
+    c.in_ok-y.ensures.shows in
+    let all = shows_related lexicon word m left right x y place first second third named single sx
+    c.in_ok-y.ensures.grown sy c.in-Ok.ensures.grown c.in-Ok.ensures.makes in
+    subst (λ k. Shows lexicon third k (term_of c.args.term.now) place) kind
+    (subst (λ u. Shows lexicon third truth_kind u place) (sym whole) all)
 
 pub to_power-returns-in-Ok-clause-shows : goal.to_power-returns-in-Ok-clause-shows
 to_power-returns-in-Ok-clause-shows g t c =
