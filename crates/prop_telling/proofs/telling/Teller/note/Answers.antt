@@ -35,7 +35,11 @@ returns-in-Memory-clause-err g c =
 
 pub returns-in_default : goal.returns-in_default
 returns-in_default g c = record {
-  ok = (Err c.in-Err.refusal, other_one (subst (λ r. Reads r (IsReading c.args.line.now)) c.in-Err.is c.requires.read)
-      c.in_default.not-Memory, refl);
+  ok = (
+    Err c.in-Err.refusal,
+    other_one (subst (λ r. Reads r (IsReading c.args.line.now)) c.in-Err.is c.requires.read)
+        c.in_default.not-Memory,
+    refl,
+  );
   err = tt;
 }
