@@ -115,30 +115,37 @@ impl Link<'_> {
     }
 }
 
-/// The cell of whether the truth at a place holds, or `y` is one of the first so many elements and
-/// paired with element `i`.
+/// An element of one side, and the cell of whether `x` is another one.
+#[derive(Clone, Copy)]
+pub(crate) struct Row {
+    element: u8,
+    other: usize,
+}
+
+/// The cell of whether `x` is another element than the row's, or `y` is one of the first so many
+/// elements and paired with it.
 fn or_partner<W: Words>(
     words: &W,
     made: &mut Vec<Made>,
     link: Link<'_>,
-    start: (u8, usize),
+    row: Row,
     count: u8,
 ) -> Result<usize, Why>
     requires sound { IsSound (W.lexicon words.now) made.old.items }
     requires link { HasLink (W.lexicon words.now) made.old.items link }
-    requires row { start.0 < (first_side link).size }
-    requires truth { Has (W.lexicon words.now) made.old.items start.1 truth_kind }
+    requires row { row.element < (first_side link).size }
+    requires truth { Has (W.lexicon words.now) made.old.items row.other truth_kind }
     requires few { count ≤ (second_side link).size }
     ensures grown { OnOk result (Grown (W.lexicon words.now) made.old.items made.new.items) }
     ensures makes { IfOk result (Makes (W.lexicon words.now) made.new.items truth_kind
-        (λ a. any_partner (are_joined link.entry start.0) count (a start.1) (a link.entry.y))) }
+        (λ a. any_partner (are_joined link.entry row.element) count (a row.other) (a link.entry.y))) }
 {
     if count == 0 {
-        return Ok(start.1);
+        return Ok(row.other);
     }
     let j = count - 1;
-    let before = or_partner(words, made, link, start, j)?;
-    if !link.joins(start.0, j) {
+    let before = or_partner(words, made, link, row, j)?;
+    if !link.joins(row.element, j) {
         return Ok(before);
     }
     let partner = element_at(words, made, side_kind(link.second()), j)?;
@@ -158,7 +165,8 @@ fn supported<W: Words>(words: &W, made: &mut Vec<Made>, link: Link<'_>, i: u8) -
     let element = element_at(words, made, side_kind(link.first()), i)?;
     let same = two(words, made, Pair::Same, link.x, element)?;
     let other = one(words, made, Single::Not, same)?;
-    or_partner(words, made, link, (i, other), link.second().size)
+    let row = Row { element: i, other };
+    or_partner(words, made, link, row, link.second().size)
 }
 
 /// The cell of whether the truth at a place holds, and `y` is paired with whichever of the first so

@@ -10,7 +10,7 @@ returns-then-not-joins-clause-makes g t c =
     let lexicon = g.W.Words.lexicon c.args.words.now in
     let j = c.args.count - 1 in
     let is : c.args.count ≡ suc j = omega (arith, c.if-count-eq0.false) in
-    partner_less lexicon (are_joined c.args.link c.args.start.0) j c.args.count c.args.start.1 c.args.link.y
+    partner_less lexicon (are_joined c.args.link c.args.row.element) j c.args.count c.args.row.other c.args.link.y
     c.in_ok-before.before c.or_partner.new.made.items is (sym c.joins.ensures ∙ c.if-not-joins.true)
     c.in_ok-before.ensures.makes
 
@@ -70,7 +70,7 @@ returns-clause-makes g t c = both_ok c.two-2.result _ _ _ c.two-2.ensures.grown 
     let lexicon = g.W.Words.lexicon c.args.words.now in
     let j = c.args.count - 1 in
     let is : c.args.count ≡ suc j = omega (arith, c.if-count-eq0.false) in
-    partner_more lexicon c.side_kind.result (are_joined c.args.link c.args.start.0) j c.args.count c.args.start.1
+    partner_more lexicon c.side_kind.result (are_joined c.args.link c.args.row.element) j c.args.count c.args.row.other
     c.args.link.y c.in_ok-before.before c.in_ok-partner.partner c.in_ok-same.same place c.or_partner.new.made.items
     c.element_at.new.made.items c.two.new.made.items c.two-2.new.made.items is
     (sym c.joins.ensures ∙ c.if-not-joins.false) c.in_ok-before.ensures.makes c.in_ok-partner.ensures.grown
