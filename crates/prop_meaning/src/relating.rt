@@ -138,7 +138,8 @@ fn or_partner<W: Words>(
     requires few { count ≤ (second_side link).size }
     ensures grown { OnOk result (Grown (W.lexicon words.now) made.old.items made.new.items) }
     ensures makes { IfOk result (Makes (W.lexicon words.now) made.new.items truth_kind
-        (λ a. any_partner (are_joined link.entry row.element) count (a row.other) (a link.entry.y))) }
+        (λ a. any_partner (are_joined link.entry row.element) count (a row.other)
+        (a link.entry.y))) }
 {
     if count == 0 {
         return Ok(row.other);
