@@ -1,4 +1,4 @@
-use Rattle.std.proofs.Common.{◌<◌, [], arith, length, subst, sym}
+use Rattle.std.proofs.Common.{◌<◌, [], arith, length}
 use Rattle.prop_numbers.specs.Sets.{set_of}
 use Rattle.prop_cells.proofs.Founding.{believed_entailed}
 use Rattle.prop_procedures.specs.Kept.{stored_of}
