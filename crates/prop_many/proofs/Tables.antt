@@ -5,7 +5,7 @@ use Rattle.std.specs.Prelude.{replicate}
 use Rattle.prop_procedures.specs.declared.shape.Shape.TheVariants.{Span}
 use Rattle.prop_many.specs.Many.{AreNumbers, least_of}
 use Rattle.prop_many.specs.Procedures.{EachCircuitIsFormed, EachIsFormed, IsFormed, Named, procedure_of}
-use Rattle.prop_many.specs.Procedures.{procedures_of, tens_of}
+use Rattle.prop_many.specs.Procedures.{procedures_of}
 use Rattle.prop_many.specs.declared.many.Many.{Many}
 use Rattle.prop_many.specs.declared.many.Many.TheVariants.{Circuit, Cumulative, Differ, Disjoint}
 
@@ -40,28 +40,15 @@ rows_formed name rule own each (suc n) some least few =
     (rows_formed name rule own each n some least (omega (arith, few)))
     (alone IsFormed _ (row_formed name rule own each (suc n) some least few))
 
--- so are those by tens, of resources
-tens_formed : (n : ℕ) → n ≤ 8 → All IsFormed (tens_of (codes "cumulative") Cumulative 4 3 n)
-tens_formed zero few = λ k d l. absurd (omega (arith, l))
-tens_formed (suc n) few =
-    All-append IsFormed (tens_of (codes "cumulative") Cumulative 4 3 n) _
-    (tens_formed n (omega (arith, few)))
-    (alone IsFormed _ (row_formed (codes "cumulative") Cumulative 4 3 (50 + 10 * n) (omega arith) (omega arith)
-    (omega (arith, few))))
-
 -- all rows are
 pub each_formed : EachIsFormed
 each_formed = All-append IsFormed (procedures_of (codes "cumulative") Cumulative 4 3 40)
-    (procedures_of (codes "disjoint") Disjoint 2 2 40 ++ procedures_of (codes "differ") Differ 1 1 63
-    ++ tens_of (codes "cumulative") Cumulative 4 3 8)
+    (procedures_of (codes "disjoint") Disjoint 2 2 40 ++ procedures_of (codes "differ") Differ 1 1 63)
     (rows_formed (codes "cumulative") Cumulative 4 3 40 (omega arith) (omega arith) (omega arith))
     (All-append IsFormed (procedures_of (codes "disjoint") Disjoint 2 2 40)
-    (procedures_of (codes "differ") Differ 1 1 63 ++ tens_of (codes "cumulative") Cumulative 4 3 8)
+    (procedures_of (codes "differ") Differ 1 1 63)
     (rows_formed (codes "disjoint") Disjoint 2 2 40 (omega arith) (omega arith) (omega arith))
-    (All-append IsFormed (procedures_of (codes "differ") Differ 1 1 63)
-    (tens_of (codes "cumulative") Cumulative 4 3 8)
-    (rows_formed (codes "differ") Differ 1 1 63 (omega arith) (omega arith) (omega arith))
-    (tens_formed 8 (omega arith))))
+    (rows_formed (codes "differ") Differ 1 1 63 (omega arith) (omega arith) (omega arith)))
 
 pub each_circuit_formed : EachCircuitIsFormed
 each_circuit_formed = rows_formed (codes "circuit") Circuit 2 1 40 (omega arith) (omega arith) (omega arith)

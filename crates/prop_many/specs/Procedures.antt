@@ -14,11 +14,9 @@ pub record Named : Type 0 where
   pub rule : Many
   pub ins : List Shape
 
--- the digits of a number below a thousand
+-- the digits of a number below a hundred
 abbrev pub digits : ℕ → List ℕ
-digits n = if nat_lt n 10 then (48 + n) ∷ [] else if nat_lt n 100
-    then (48 + n / 10) ∷ (48 + n % 10) ∷ []
-    else (48 + n / 100) ∷ (48 + n / 10 % 10) ∷ (48 + n % 10) ∷ []
+digits n = if nat_lt n 10 then (48 + n) ∷ [] else (48 + n / 10) ∷ (48 + n % 10) ∷ []
 
 -- A rule's procedure for n others, or nodes, named by their number. It has `own` inputs, and beside
 -- these `each` for each of the others.
@@ -35,18 +33,11 @@ procedures_of name rule own each zero = []
 procedures_of name rule own each (suc n) =
     procedures_of name rule own each n ++ procedure_of name rule own each (suc n) ∷ []
 
--- those for 50, 60 and so on, n of them
-abbrev pub tens_of : List ℕ → Many → ℕ → ℕ → ℕ → List Named
-tens_of name rule own each zero = []
-tens_of name rule own each (suc n) =
-    tens_of name rule own each n ++ procedure_of name rule own each (50 + 10 * n) ∷ []
-
 -- the procedures of tasks and of numbers that differ, in order
 abbrev pub in_order : List Named
 in_order = procedures_of (codes "cumulative") Cumulative 4 3 40
     ++ procedures_of (codes "disjoint") Disjoint 2 2 40
     ++ procedures_of (codes "differ") Differ 1 1 63
-    ++ tens_of (codes "cumulative") Cumulative 4 3 8
 
 -- those of circuits
 abbrev pub circuits_in_order : List Named

@@ -7,7 +7,7 @@ use prop_procedures::Shape;
 
 /// The name of each procedure, its rule and the shapes of its inputs, in the order in which a
 /// program makes them.
-pub const PROCEDURES: [(&'static str, Many, &'static [Shape]); 151] = [
+pub const PROCEDURES: [(&'static str, Many, &'static [Shape]); 143] = [
     ("cumulative1", Many::Cumulative, &[Shape::Span; 7]),
     ("cumulative2", Many::Cumulative, &[Shape::Span; 10]),
     ("cumulative3", Many::Cumulative, &[Shape::Span; 13]),
@@ -151,14 +151,6 @@ pub const PROCEDURES: [(&'static str, Many, &'static [Shape]); 151] = [
     ("differ61", Many::Differ, &[Shape::Span; 62]),
     ("differ62", Many::Differ, &[Shape::Span; 63]),
     ("differ63", Many::Differ, &[Shape::Span; 64]),
-    ("cumulative50", Many::Cumulative, &[Shape::Span; 154]),
-    ("cumulative60", Many::Cumulative, &[Shape::Span; 184]),
-    ("cumulative70", Many::Cumulative, &[Shape::Span; 214]),
-    ("cumulative80", Many::Cumulative, &[Shape::Span; 244]),
-    ("cumulative90", Many::Cumulative, &[Shape::Span; 274]),
-    ("cumulative100", Many::Cumulative, &[Shape::Span; 304]),
-    ("cumulative110", Many::Cumulative, &[Shape::Span; 334]),
-    ("cumulative120", Many::Cumulative, &[Shape::Span; 364]),
 ];
 
 /// The same of circuits, by the number of nodes.
