@@ -18,7 +18,7 @@ from documents import code_shown
 
 TOP = os.path.dirname(os.path.dirname(os.path.realpath(__file__)))
 # Some 200 of these are declarations and functions, the rest definitions.
-MOST, MOST_WIDE = 1_599, 4_936
+MOST, MOST_WIDE = 1_599, 5_037
 UNSAID = 8
 
 

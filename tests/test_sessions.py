@@ -17,11 +17,11 @@ PATH is crates/propbench/out/propbench where it is left out. What is run:
 - sessions that are made: large ones, command lines, devices that fail (tests/made.py);
 - an example of each use in each compound of the prelude (tests/prelude.py);
 - each procedure of the kit on small informations, against plain enumeration (tests/rules.py), and
-  those beside the kit over propwide, where that is built (tests/wide_rules.py), and values that all
-  differ, and Sudokus (tests/wide_puzzles.py), and tasks that share a resource
-  (tests/many_rules.py), sums and rows (tests/row_rules.py), and random networks over the former
-  two, and sums as chains (tests/wide_sessions.py), and random sessions of steps that are told
-  (tests/telling.py);
+  those beside the kit over propwide, where that is built (tests/wide_rules.py), and values that
+  all differ, and Sudokus (tests/wide_puzzles.py), and tasks that share a resource
+  (tests/many_rules.py) or pause (tests/pause_rules.py), sums and rows (tests/row_rules.py), and
+  random networks over the former two, and sums as chains (tests/wide_sessions.py), and random
+  sessions of steps that are told (tests/telling.py);
 - points that are asked for of random small networks, against all that there are (tests/solving.py),
   and such replies spoiled on purpose, which these networks have to find out
   (tests/spoiled_solving.py);
@@ -81,6 +81,7 @@ import made
 import many_rules
 import package
 import pages
+import pause_rules
 import peers
 import pipe
 import plain
@@ -165,6 +166,7 @@ def cases() -> Iterator[Runnable]:
     yield from wide_rules.built()
     yield from wide_puzzles.built()
     yield from many_rules.built()
+    yield from pause_rules.built()
     yield from row_rules.built()
     yield from wide_sessions.built()
     yield from solving.built()

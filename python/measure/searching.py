@@ -47,7 +47,7 @@ from talking import reply_of  # noqa: E402
 from propbench import Workbench, all_different, find_wide  # noqa: E402
 
 # So many steps a line takes, so that the best so far is told; so many lines go at once.
-SLICE, AT_ONCE = 1_000_000, 500
+SLICE, AT_ONCE = 4_000_000, 500
 MEMORY = 4 << 30
 # Where so many are asked for, all are.
 ALL = 1_000_000

@@ -201,6 +201,15 @@ def test_equal_expressions_share_a_cell(w: Workbench) -> None:
     assert len([line for line in w.lines(x * y >= 5) if " product " in line]) == 1
 
 
+def test_what_changes_nothing_takes_no_cell(w: Workbench) -> None:
+    x = w.number("x", 0, 9)
+    for same in (x + 0, 0 + x, x - 0, x * 1, 1 * x, x // 1, sum([x])):
+        assert same is x
+    assert repr(x + (x - x)) == "x + (x - x)"
+    assert repr(0 - x) == "0 - x"
+    assert repr(0 * x) == "0 * x"
+
+
 @pytest.mark.parametrize("under", [None, "p"])
 def test_divisions(w: Workbench, under: str | None) -> None:
     x, y, q = w.number("x", -20, 20), w.number("y", -3, 3), w.number("q")

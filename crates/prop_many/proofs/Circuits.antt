@@ -1,9 +1,9 @@
 -- Steps of the walk along successors.
-use Rattle.std.proofs.Common.{◌≡◌, ◌≤◌, ◌-◌, ◌+ℤ◌, ◌-ℤ◌, ◌∙◌, ℕ, ℤ, zero, suc, pos, Bool, true, false, List, arith, ap}
-use Rattle.std.specs.Prelude.{Option, Some}
+use Rattle.std.proofs.Common.{◌≡◌, ◌≤◌, ◌-◌, ◌+ℤ◌, ◌∙◌, ℕ, ℤ, zero, suc, pos, Bool, true, false, List, arith, ap}
+use Rattle.std.specs.Prelude.{Some}
 use Rattle.std.specs.Ordering.{int_eq}
 use Rattle.prop_lattice.specs.declared.info.Info.{Info}
-use Rattle.prop_many.specs.Circuit.{entry_at, goes_wrong, is_one, lowered, raised}
+use Rattle.prop_many.specs.Circuit.{entry_at, goes_wrong, is_one, raised}
 use Rattle.prop_wide.specs.Ends.{low_of}
 
 one_less : (n : ℕ) → suc n - 1 ≡ n

@@ -5,6 +5,7 @@ use Rattle.prop_guards.specs.Known.{number_of}
 use Rattle.prop_lattice.specs.declared.info.Info.{Info}
 use Rattle.prop_many.specs.declared.many.Many.{Many}
 use Rattle.prop_many.specs.declared.many.Many.TheVariants.{Circuit, Cumulative, Differ, Disjoint}
+use Rattle.prop_many.specs.declared.many.Many.TheVariants.{Ending, Starting}
 
 -- the place of the input that is the output: the task's own start, the own number or the node's own
 -- successor
@@ -13,6 +14,8 @@ own_of Cumulative = Some 1
 own_of Disjoint = Some 0
 own_of Differ = Some 0
 own_of Circuit = Some 0
+own_of Ending = None
+own_of Starting = Some 0
 
 -- the only number that the other at this place leaves: the own number can't be that
 abbrev pub ruled_out_beside : List Info → ℕ → Option ℤ

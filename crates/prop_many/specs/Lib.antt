@@ -4,6 +4,7 @@ pub mod Disjoint
 pub mod Differ
 pub mod Free
 pub mod Circuit
+pub mod Pausing
 pub mod Many
 pub mod Exact
 pub mod Guards

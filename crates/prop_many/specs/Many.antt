@@ -1,5 +1,6 @@
 -- The rules of many numbers: of tasks that share a resource, or that may not overlap, of numbers
--- that differ, and of circuits. Their forms, what they answer, and which points belong together.
+-- that differ, of circuits, and of tasks that pause. Their forms, what they answer, and which
+-- points belong together.
 use Rattle.std.specs.Prelude.{◌≡◌, ◌≤◌, ℕ, Bool, true, false, List, length}
 use Rattle.std.specs.List.{list_all}
 use Rattle.prop_lattice.specs.Points.{Point}
@@ -13,8 +14,10 @@ use Rattle.prop_many.specs.Circuit.{RelatesCircuit, circuit_of}
 use Rattle.prop_many.specs.Cumulative.{RelatesCumulative, cumulative_of}
 use Rattle.prop_many.specs.Differ.{RelatesDiffer, differ_of}
 use Rattle.prop_many.specs.Disjoint.{RelatesDisjoint, disjoint_of}
+use Rattle.prop_many.specs.Pausing.{RelatesEnding, RelatesStarting, ending_of, starting_of}
 use Rattle.prop_many.specs.declared.many.Many.{Many}
 use Rattle.prop_many.specs.declared.many.Many.TheVariants.{Circuit, Cumulative, Differ, Disjoint}
+use Rattle.prop_many.specs.declared.many.Many.TheVariants.{Ending, Starting}
 
 -- the shape is that of numbers
 abbrev pub is_number : Shape → Bool
@@ -31,6 +34,8 @@ least_of Cumulative = 4
 least_of Disjoint = 2
 least_of Differ = 1
 least_of Circuit = 2
+least_of Ending = 2
+least_of Starting = 3
 
 -- the rule may have inputs of these shapes
 abbrev pub HasInputs : Many → List Shape → Type 0
@@ -46,6 +51,8 @@ value_of Cumulative param args = cumulative_of args
 value_of Disjoint param args = disjoint_of args
 value_of Differ param args = differ_of args
 value_of Circuit param args = circuit_of args
+value_of Ending param args = ending_of args
+value_of Starting param args = starting_of args
 
 -- the points that belong together: those of the inputs, and that of the output
 abbrev pub Related : Many → Param → List Point → Point → Type 0
@@ -53,3 +60,5 @@ Related Cumulative param points point = RelatesCumulative points point
 Related Disjoint param points point = RelatesDisjoint points point
 Related Differ param points point = RelatesDiffer points point
 Related Circuit param points point = RelatesCircuit points point
+Related Ending param points point = RelatesEnding points point
+Related Starting param points point = RelatesStarting points point

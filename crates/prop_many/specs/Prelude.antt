@@ -35,6 +35,20 @@ prelude_lines =
     "define all_different15 a b c d e f g h i j k l m n o = differ14 a b c d e f g h i j k l m n o a ; differ14 b a c d e f g h i j k l m n o b ; differ14 c a b d e f g h i j k l m n o c ; differ14 d a b c e f g h i j k l m n o d ; differ14 e a b c d f g h i j k l m n o e ; differ14 f a b c d e g h i j k l m n o f ; differ14 g a b c d e f h i j k l m n o g ; differ14 h a b c d e f g i j k l m n o h ; differ14 i a b c d e f g h j k l m n o i ; differ14 j a b c d e f g h i k l m n o j ; differ14 k a b c d e f g h i j l m n o k ; differ14 l a b c d e f g h i j k m n o l ; differ14 m a b c d e f g h i j k l n o m ; differ14 n a b c d e f g h i j k l m o n ; differ14 o a b c d e f g h i j k l m n o" ∷
     codes
     "define all_different16 a b c d e f g h i j k l m n o p = differ15 a b c d e f g h i j k l m n o p a ; differ15 b a c d e f g h i j k l m n o p b ; differ15 c a b d e f g h i j k l m n o p c ; differ15 d a b c e f g h i j k l m n o p d ; differ15 e a b c d f g h i j k l m n o p e ; differ15 f a b c d e g h i j k l m n o p f ; differ15 g a b c d e f h i j k l m n o p g ; differ15 h a b c d e f g i j k l m n o p h ; differ15 i a b c d e f g h j k l m n o p i ; differ15 j a b c d e f g h i k l m n o p j ; differ15 k a b c d e f g h i j l m n o p k ; differ15 l a b c d e f g h i j k m n o p l ; differ15 m a b c d e f g h i j k l n o p m ; differ15 n a b c d e f g h i j k l m o p n ; differ15 o a b c d e f g h i j k l m n p o ; differ15 p a b c d e f g h i j k l m n o p" ∷
+    codes
+    "define pausing1 s w e a1 d1 = pauser1 s w a1 d1 e ; pause_back1 s e w a1 d1 s" ∷
+    codes
+    "define pausing2 s w e a1 d1 a2 d2 = pauser2 s w a1 d1 a2 d2 e ; pause_back2 s e w a1 d1 a2 d2 s" ∷
+    codes
+    "define pausing4 s w e a1 d1 a2 d2 a3 d3 a4 d4 = pauser4 s w a1 d1 a2 d2 a3 d3 a4 d4 e ; pause_back4 s e w a1 d1 a2 d2 a3 d3 a4 d4 s" ∷
+    codes
+    "define pausing8 s w e a1 d1 a2 d2 a3 d3 a4 d4 a5 d5 a6 d6 a7 d7 a8 d8 = pauser8 s w a1 d1 a2 d2 a3 d3 a4 d4 a5 d5 a6 d6 a7 d7 a8 d8 e ; pause_back8 s e w a1 d1 a2 d2 a3 d3 a4 d4 a5 d5 a6 d6 a7 d7 a8 d8 s" ∷
+    codes
+    "define pausing16 s w e a1 d1 a2 d2 a3 d3 a4 d4 a5 d5 a6 d6 a7 d7 a8 d8 a9 d9 a10 d10 a11 d11 a12 d12 a13 d13 a14 d14 a15 d15 a16 d16 = pauser16 s w a1 d1 a2 d2 a3 d3 a4 d4 a5 d5 a6 d6 a7 d7 a8 d8 a9 d9 a10 d10 a11 d11 a12 d12 a13 d13 a14 d14 a15 d15 a16 d16 e ; pause_back16 s e w a1 d1 a2 d2 a3 d3 a4 d4 a5 d5 a6 d6 a7 d7 a8 d8 a9 d9 a10 d10 a11 d11 a12 d12 a13 d13 a14 d14 a15 d15 a16 d16 s" ∷
+    codes
+    "define pausing32 s w e a1 d1 a2 d2 a3 d3 a4 d4 a5 d5 a6 d6 a7 d7 a8 d8 a9 d9 a10 d10 a11 d11 a12 d12 a13 d13 a14 d14 a15 d15 a16 d16 a17 d17 a18 d18 a19 d19 a20 d20 a21 d21 a22 d22 a23 d23 a24 d24 a25 d25 a26 d26 a27 d27 a28 d28 a29 d29 a30 d30 a31 d31 a32 d32 = pauser32 s w a1 d1 a2 d2 a3 d3 a4 d4 a5 d5 a6 d6 a7 d7 a8 d8 a9 d9 a10 d10 a11 d11 a12 d12 a13 d13 a14 d14 a15 d15 a16 d16 a17 d17 a18 d18 a19 d19 a20 d20 a21 d21 a22 d22 a23 d23 a24 d24 a25 d25 a26 d26 a27 d27 a28 d28 a29 d29 a30 d30 a31 d31 a32 d32 e ; pause_back32 s e w a1 d1 a2 d2 a3 d3 a4 d4 a5 d5 a6 d6 a7 d7 a8 d8 a9 d9 a10 d10 a11 d11 a12 d12 a13 d13 a14 d14 a15 d15 a16 d16 a17 d17 a18 d18 a19 d19 a20 d20 a21 d21 a22 d22 a23 d23 a24 d24 a25 d25 a26 d26 a27 d27 a28 d28 a29 d29 a30 d30 a31 d31 a32 d32 s" ∷
+    codes
+    "define pausing64 s w e a1 d1 a2 d2 a3 d3 a4 d4 a5 d5 a6 d6 a7 d7 a8 d8 a9 d9 a10 d10 a11 d11 a12 d12 a13 d13 a14 d14 a15 d15 a16 d16 a17 d17 a18 d18 a19 d19 a20 d20 a21 d21 a22 d22 a23 d23 a24 d24 a25 d25 a26 d26 a27 d27 a28 d28 a29 d29 a30 d30 a31 d31 a32 d32 a33 d33 a34 d34 a35 d35 a36 d36 a37 d37 a38 d38 a39 d39 a40 d40 a41 d41 a42 d42 a43 d43 a44 d44 a45 d45 a46 d46 a47 d47 a48 d48 a49 d49 a50 d50 a51 d51 a52 d52 a53 d53 a54 d54 a55 d55 a56 d56 a57 d57 a58 d58 a59 d59 a60 d60 a61 d61 a62 d62 a63 d63 a64 d64 = pauser64 s w a1 d1 a2 d2 a3 d3 a4 d4 a5 d5 a6 d6 a7 d7 a8 d8 a9 d9 a10 d10 a11 d11 a12 d12 a13 d13 a14 d14 a15 d15 a16 d16 a17 d17 a18 d18 a19 d19 a20 d20 a21 d21 a22 d22 a23 d23 a24 d24 a25 d25 a26 d26 a27 d27 a28 d28 a29 d29 a30 d30 a31 d31 a32 d32 a33 d33 a34 d34 a35 d35 a36 d36 a37 d37 a38 d38 a39 d39 a40 d40 a41 d41 a42 d42 a43 d43 a44 d44 a45 d45 a46 d46 a47 d47 a48 d48 a49 d49 a50 d50 a51 d51 a52 d52 a53 d53 a54 d54 a55 d55 a56 d56 a57 d57 a58 d58 a59 d59 a60 d60 a61 d61 a62 d62 a63 d63 a64 d64 e ; pause_back64 s e w a1 d1 a2 d2 a3 d3 a4 d4 a5 d5 a6 d6 a7 d7 a8 d8 a9 d9 a10 d10 a11 d11 a12 d12 a13 d13 a14 d14 a15 d15 a16 d16 a17 d17 a18 d18 a19 d19 a20 d20 a21 d21 a22 d22 a23 d23 a24 d24 a25 d25 a26 d26 a27 d27 a28 d28 a29 d29 a30 d30 a31 d31 a32 d32 a33 d33 a34 d34 a35 d35 a36 d36 a37 d37 a38 d38 a39 d39 a40 d40 a41 d41 a42 d42 a43 d43 a44 d44 a45 d45 a46 d46 a47 d47 a48 d48 a49 d49 a50 d50 a51 d51 a52 d52 a53 d53 a54 d54 a55 d55 a56 d56 a57 d57 a58 d58 a59 d59 a60 d60 a61 d61 a62 d62 a63 d63 a64 d64 s" ∷
     []
 
 -- the program's own lines are these

@@ -4,9 +4,10 @@ use Rattle.std.specs.Prelude.{◌++◌, codes, if◌then◌else◌, map, length,
 use Rattle.prop_procedures.specs.declared.shape.Shape.{Shape}
 use Rattle.prop_procedures.specs.declared.shape.Shape.TheVariants.{Span}
 use Rattle.prop_many.specs.Many.{HasInputs}
-use Rattle.prop_many.specs.declared.procedures.TheConstants.{CIRCUITS, PROCEDURES}
+use Rattle.prop_many.specs.declared.procedures.TheConstants.{CIRCUITS, TASKS, PROCEDURES}
 use Rattle.prop_many.specs.declared.many.Many.{Many}
 use Rattle.prop_many.specs.declared.many.Many.TheVariants.{Circuit, Cumulative, Differ, Disjoint}
+use Rattle.prop_many.specs.declared.many.Many.TheVariants.{Ending, Starting}
 
 -- a procedure's name, its rule and the shapes of its inputs
 pub record Named : Type 0 where
@@ -14,9 +15,11 @@ pub record Named : Type 0 where
   pub rule : Many
   pub ins : List Shape
 
--- the digits of a number below a hundred
+-- the digits of a number below a thousand
 abbrev pub digits : ℕ → List ℕ
-digits n = if nat_lt n 10 then (48 + n) ∷ [] else (48 + n / 10) ∷ (48 + n % 10) ∷ []
+digits n = if nat_lt n 10 then (48 + n) ∷ [] else if nat_lt n 100
+    then (48 + n / 10) ∷ (48 + n % 10) ∷ []
+    else (48 + n / 100) ∷ (48 + n / 10 % 10) ∷ (48 + n % 10) ∷ []
 
 -- A rule's procedure for n others, or nodes, named by their number. It has `own` inputs, and beside
 -- these `each` for each of the others.
@@ -39,6 +42,14 @@ in_order = procedures_of (codes "cumulative") Cumulative 4 3 40
     ++ procedures_of (codes "disjoint") Disjoint 2 2 40
     ++ procedures_of (codes "differ") Differ 1 1 63
 
+-- those of tasks beside 50, 60 and so on to 120 others, and of tasks with 1, 2, 4 and so on to 64
+-- pauses
+abbrev pub tasks_in_order : List Named
+tasks_in_order = map (procedure_of (codes "cumulative") Cumulative 4 3)
+    (50 ∷ 60 ∷ 70 ∷ 80 ∷ 90 ∷ 100 ∷ 110 ∷ 120 ∷ [])
+    ++ map (procedure_of (codes "pauser") Ending 2 2) (1 ∷ 2 ∷ 4 ∷ 8 ∷ 16 ∷ 32 ∷ 64 ∷ [])
+    ++ map (procedure_of (codes "pause_back") Starting 3 2) (1 ∷ 2 ∷ 4 ∷ 8 ∷ 16 ∷ 32 ∷ 64 ∷ [])
+
 -- those of circuits
 abbrev pub circuits_in_order : List Named
 circuits_in_order = procedures_of (codes "circuit") Circuit 2 1 40
@@ -47,6 +58,10 @@ circuits_in_order = procedures_of (codes "circuit") Circuit 2 1 40
 abbrev pub ProceduresAreStated : Type 0
 ProceduresAreStated =
     map (λ p. record { name = p.0.now; rule = p.1; ins = p.2.now }) PROCEDURES ≡ in_order
+
+abbrev pub TasksAreStated : Type 0
+TasksAreStated =
+    map (λ p. record { name = p.0.now; rule = p.1; ins = p.2.now }) TASKS ≡ tasks_in_order
 
 abbrev pub CircuitsAreStated : Type 0
 CircuitsAreStated =
@@ -61,6 +76,9 @@ pub record IsFormed (p : Named) : Type 0 where
 -- each procedure has such inputs
 abbrev pub EachIsFormed : Type 0
 EachIsFormed = All IsFormed in_order
+
+abbrev pub EachTaskIsFormed : Type 0
+EachTaskIsFormed = All IsFormed tasks_in_order
 
 abbrev pub EachCircuitIsFormed : Type 0
 EachCircuitIsFormed = All IsFormed circuits_in_order

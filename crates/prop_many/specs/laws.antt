@@ -6,6 +6,7 @@ pub mod DifferLaws
 pub mod FreeLaws
 pub mod ExactLaws
 pub mod CircuitLaws
+pub mod PausingLaws
 pub mod SinglesLaws
 pub mod ManyLaws
 pub mod GuardLaws

@@ -10,7 +10,7 @@ use prop_lattice::Info;
 use prop_wide::ends::{high_of, known, low_of};
 
 /// Whether a number is known.
-fn is_one(number: Info) -> bool
+pub(crate) fn is_one(number: Info) -> bool
     ensures { result ≡ is_one number }
 {
     low_of(number) == high_of(number)

@@ -86,7 +86,8 @@ impl Guarded for Many {
     fn own_place(&self) -> Option<usize> {
         match self {
             Many::Cumulative => Some(1),
-            Many::Disjoint | Many::Differ | Many::Circuit => Some(0),
+            Many::Disjoint | Many::Differ | Many::Circuit | Many::Starting => Some(0),
+            Many::Ending => None,
         }
     }
 
@@ -106,6 +107,7 @@ impl Guarded for Many {
             // that moves takes longer than it saves)
             Many::Differ | Many::Circuit if 0 < place => POINT,
             Many::Differ | Many::Circuit => ENDS,
+            Many::Ending | Many::Starting => ENDS,
             _ => LOW,
         }
     }

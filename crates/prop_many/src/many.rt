@@ -11,6 +11,7 @@ use crate::circuit::successor_around;
 use crate::cumulative::start_beside;
 use crate::differ::number_beside;
 use crate::disjoint::start_apart;
+use crate::pausing::{end_with_pauses, start_with_pauses};
 use prop_lattice::Info;
 use prop_procedures::{Need, Rule, Shape};
 
@@ -28,6 +29,11 @@ pub enum Many {
     /// From the successor of a node, the node's number and the successors of all nodes to the
     /// successor: the nodes are one circuit.
     Circuit,
+    /// From the start of a task, its days of work, and the first day and how many days of each
+    /// pause, to its end: on the days of a pause nothing of it is done.
+    Ending,
+    /// From the start of a task, its end, its days of work and the pauses, to its start.
+    Starting,
 }
 
 /// Whether a shape is that of numbers.
@@ -51,7 +57,8 @@ impl Many {
     {
         match self {
             Many::Cumulative => 4,
-            Many::Disjoint | Many::Circuit => 2,
+            Many::Disjoint | Many::Circuit | Many::Ending => 2,
+            Many::Starting => 3,
             Many::Differ => 1,
         }
     }
@@ -77,6 +84,8 @@ impl Many {
             Many::Disjoint => start_apart(args),
             Many::Differ => number_beside(args),
             Many::Circuit => successor_around(args),
+            Many::Ending => end_with_pauses(args),
+            Many::Starting => start_with_pauses(args),
         }
     }
 }

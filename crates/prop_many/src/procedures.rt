@@ -1,5 +1,6 @@
 //! The procedures: each rule under its name and the number of other tasks or numbers, or of nodes.
 ghost use Rattle.prop_many.specs.Procedures.{CircuitsAreStated, EachCircuitIsFormed, EachIsFormed};
+ghost use Rattle.prop_many.specs.Procedures.{EachTaskIsFormed, TasksAreStated};
 ghost use Rattle.prop_many.specs.Procedures.{ProceduresAreStated};
 
 use crate::many::Many;
@@ -153,6 +154,32 @@ pub const PROCEDURES: [(&'static str, Many, &'static [Shape]); 143] = [
     ("differ63", Many::Differ, &[Shape::Span; 64]),
 ];
 
+/// The same of tasks beside more others, by tens, and of tasks that pause, by the number of pauses.
+pub const TASKS: [(&'static str, Many, &'static [Shape]); 22] = [
+    ("cumulative50", Many::Cumulative, &[Shape::Span; 154]),
+    ("cumulative60", Many::Cumulative, &[Shape::Span; 184]),
+    ("cumulative70", Many::Cumulative, &[Shape::Span; 214]),
+    ("cumulative80", Many::Cumulative, &[Shape::Span; 244]),
+    ("cumulative90", Many::Cumulative, &[Shape::Span; 274]),
+    ("cumulative100", Many::Cumulative, &[Shape::Span; 304]),
+    ("cumulative110", Many::Cumulative, &[Shape::Span; 334]),
+    ("cumulative120", Many::Cumulative, &[Shape::Span; 364]),
+    ("pauser1", Many::Ending, &[Shape::Span; 4]),
+    ("pauser2", Many::Ending, &[Shape::Span; 6]),
+    ("pauser4", Many::Ending, &[Shape::Span; 10]),
+    ("pauser8", Many::Ending, &[Shape::Span; 18]),
+    ("pauser16", Many::Ending, &[Shape::Span; 34]),
+    ("pauser32", Many::Ending, &[Shape::Span; 66]),
+    ("pauser64", Many::Ending, &[Shape::Span; 130]),
+    ("pause_back1", Many::Starting, &[Shape::Span; 5]),
+    ("pause_back2", Many::Starting, &[Shape::Span; 7]),
+    ("pause_back4", Many::Starting, &[Shape::Span; 11]),
+    ("pause_back8", Many::Starting, &[Shape::Span; 19]),
+    ("pause_back16", Many::Starting, &[Shape::Span; 35]),
+    ("pause_back32", Many::Starting, &[Shape::Span; 67]),
+    ("pause_back64", Many::Starting, &[Shape::Span; 131]),
+];
+
 /// The same of circuits, by the number of nodes.
 pub const CIRCUITS: [(&'static str, Many, &'static [Shape]); 40] = [
     ("circuit1", Many::Circuit, &[Shape::Span; 3]),
@@ -202,6 +229,12 @@ pub const CIRCUITS: [(&'static str, Many, &'static [Shape]); 40] = [
 pub fn procedures_are_stated()
     ensures stated { ProceduresAreStated }
     ensures formed { EachIsFormed }
+{}
+
+/// So are those of tasks beside more others, and of tasks that pause.
+pub fn tasks_are_stated()
+    ensures stated { TasksAreStated }
+    ensures formed { EachTaskIsFormed }
 {}
 
 /// So are those of circuits.

@@ -39,8 +39,9 @@ use Rattle.prop_many.specs.declared.many.Many.{Many}
 use Rattle.prop_many.specs.Many.{FormOf as ManyForm, Related as ManyRelated, value_of as many_value}
 use Rattle.prop_many.specs.Procedures.{IsFormed as IsManyFormed, Named as ManyNamed}
 use Rattle.prop_many.specs.Procedures.{circuits_in_order as circuits_named, in_order as many_named}
+use Rattle.prop_many.specs.Procedures.{tasks_in_order as tasks_named}
 use Rattle.prop_many.specs.laws.ManyLaws.{many_sound}
-use Rattle.prop_many.proofs.Tables.{each_circuit_formed, each_formed}
+use Rattle.prop_many.proofs.Tables.{each_circuit_formed, each_formed, each_task_formed}
 use Rattle.prop_rows.proofs.ExactLaws.{rows_are_exact}
 use Rattle.prop_rows.proofs.TableLemmas.{all_formed as all_rows_formed, others_formed}
 use Rattle.prop_rows.specs.Procedures.{IsFormed as IsRowFormed, Named as RowNamed, in_order as row_named}
@@ -220,20 +221,25 @@ rows_made_on = map of_rows row_named ++ counts_made
 abbrev circuits_made : List Made
 circuits_made = map of_many circuits_named ++ rows_made_on
 
-last_formed : All IsFormed (map of_many many_named ++ circuits_made)
+abbrev tasks_made : List Made
+tasks_made = map of_many tasks_named ++ circuits_made
+
+last_formed : All IsFormed (map of_many many_named ++ tasks_made)
 last_formed =
-    All-append IsFormed (map of_many many_named) circuits_made
+    All-append IsFormed (map of_many many_named) tasks_made
     (manys_formed many_named each_formed)
+    (All-append IsFormed (map of_many tasks_named) circuits_made
+    (manys_formed tasks_named each_task_formed)
     (All-append IsFormed (map of_many circuits_named) rows_made_on
     (manys_formed circuits_named each_circuit_formed)
     (All-append IsFormed (map of_rows row_named) counts_made (rows_formed row_named all_rows_formed)
     (All-append IsFormed (map of_rows counts_named) ends_made
     (rows_formed counts_named others_formed.0)
     (All-append IsFormed (map of_rows greatest_named) (map of_rows least_named)
-    (rows_formed greatest_named others_formed.1) (rows_formed least_named others_formed.2)))))
+    (rows_formed greatest_named others_formed.1) (rows_formed least_named others_formed.2))))))
 
 abbrev lasts_made : List Made
-lasts_made = map of_many many_named ++ circuits_made
+lasts_made = map of_many many_named ++ tasks_made
 
 abbrev excluders_made : List Made
 excluders_made = map of_excluder excluders ++ lasts_made

@@ -30,7 +30,7 @@ use Rattle.prop_many.specs.declared.many.Many.{Many}
 use Rattle.prop_many.specs.Many.{Related as ManyRelated, value_of as many_value}
 use Rattle.prop_many.specs.Prelude.{prelude_lines as many_lines}
 use Rattle.prop_many.specs.Procedures.{Named as ManyNamed, circuits_in_order as circuits_named}
-use Rattle.prop_many.specs.Procedures.{in_order as many_named}
+use Rattle.prop_many.specs.Procedures.{in_order as many_named, tasks_in_order as tasks_named}
 use Rattle.prop_rows.specs.declared.row.Row.{Row}
 use Rattle.prop_rows.specs.Prelude.{more_lines, prelude_lines as row_lines}
 use Rattle.prop_rows.specs.Procedures.{Named as RowNamed, in_order as row_named}
@@ -108,9 +108,9 @@ abbrev pub in_order : List Made
 in_order =
     map of_kit kits
     ++ (map of_wide named
-    ++ (map of_excluder excluders ++ (map of_many many_named ++ (map of_many circuits_named
-    ++ (map of_rows row_named ++ (map of_rows counts_named ++ (map of_rows greatest_named
-    ++ map of_rows least_named)))))))
+    ++ (map of_excluder excluders ++ (map of_many many_named ++ (map of_many tasks_named
+    ++ (map of_many circuits_named ++ (map of_rows row_named ++ (map of_rows counts_named
+    ++ (map of_rows greatest_named ++ map of_rows least_named))))))))
 
 -- the lines of all preludes, in order
 abbrev pub lines_in_order : List (List ℕ)

@@ -4,7 +4,7 @@ ghost use Rattle.prop_language.specs.Said.{words};
 ghost use Rattle.prop_arith.specs.Kit.{in_order as kits};
 ghost use Rattle.prop_hall.specs.Excluder.{in_order as excluders};
 ghost use Rattle.prop_many.specs.Procedures.{circuits_in_order as circuits_named};
-ghost use Rattle.prop_many.specs.Procedures.{in_order as many_named};
+ghost use Rattle.prop_many.specs.Procedures.{in_order as many_named, tasks_in_order as tasks_named};
 ghost use Rattle.prop_rows.specs.Procedures.{counts_in_order as counts_named};
 ghost use Rattle.prop_rows.specs.Procedures.{greatest_in_order as greatest_named};
 ghost use Rattle.prop_rows.specs.Procedures.{in_order as row_named};
@@ -17,8 +17,9 @@ use prop_arith::{KITS, Kit, PRELUDE};
 use prop_hall::{EXCLUDERS, Excluder};
 use prop_lattice::Info;
 use prop_many::{
-    CIRCUITS, Many, PRELUDE as MANY_PRELUDE, PROCEDURES as MANY_PROCEDURES, circuits_are_stated,
-    prelude_is_stated as many_prelude_is_stated, procedures_are_stated as many_are_stated,
+    CIRCUITS, TASKS, Many, PRELUDE as MANY_PRELUDE, PROCEDURES as MANY_PROCEDURES,
+    circuits_are_stated, tasks_are_stated, prelude_is_stated as many_prelude_is_stated,
+    procedures_are_stated as many_are_stated,
 };
 use prop_procedures::{Both, Named, Need, Param, Shape};
 use prop_rows::{
@@ -71,6 +72,7 @@ fn add_all(made: &mut Vec<Entry>) -> Result<(), AllocError>
     add_wider(made)?;
     add_excluders(made)?;
     add_many(made)?;
+    add_tasks(made)?;
     add_circuits(made)?;
     add_rows(made)?;
     add_counts(made)?;
@@ -139,6 +141,26 @@ fn add_many(made: &mut Vec<Entry>) -> Result<(), AllocError>
     // (so that the table is the one that is stated)
     many_are_stated();
     for row in &MANY_PROCEDURES {
+        let (name, rule, ins) = *row;
+        made.push(Entry {
+            name,
+            ins,
+            out: Shape::Span,
+            need: Need::Nothing,
+            rule: Both::Two(Both::Two(Both::Two(Both::One(rule)))),
+        })?;
+    }
+    Ok(())
+}
+
+/// Adds the procedures of tasks beside many others, and of tasks that pause.
+fn add_tasks(made: &mut Vec<Entry>) -> Result<(), AllocError>
+    ensures { OnOk result
+        (map shown made.new.items ≡ map shown made.old.items ++ map of_many tasks_named) }
+{
+    // (so that the table is the one that is stated)
+    tasks_are_stated();
+    for row in &TASKS {
         let (name, rule, ins) = *row;
         made.push(Entry {
             name,

@@ -1,5 +1,5 @@
 -- The laws of circuits.
-use Rattle.std.specs.Prelude.{◌≡◌, ◌≢◌, ◌≤◌, ◌-◌, ℕ, zero, suc, ℤ, pos, neg_ℤ, ◌+ℤ◌, ◌-ℤ◌, ◌≤ℤ◌}
+use Rattle.std.specs.Prelude.{◌≡◌, ◌≢◌, ◌≤◌, ◌-◌, ℕ, zero, suc, ℤ, pos, ◌+ℤ◌, ◌-ℤ◌, ◌≤ℤ◌}
 use Rattle.std.specs.Prelude.{◌<ℤ◌, int_lt, Bool, true, false, not, ◌&&◌, ◌||◌, if◌then◌else◌}
 use Rattle.std.specs.Prelude.{List, [], ◌∷◌, length, Option, Some, None, ⊤}
 use Rattle.std.specs.Int.{int_max, int_min}
@@ -18,9 +18,8 @@ use Rattle.prop_lattice.specs.Rank.{IsOf}
 use Rattle.prop_lattice.specs.declared.info.Info.{Info}
 use Rattle.prop_lattice.specs.declared.info.Info.TheVariants.{Nothing, Contradiction}
 use Rattle.prop_lattice.specs.declared.info.Kind.TheVariants as kinds
-use Rattle.prop_lattice.specs.declared.span.TheConstants.{B}
 use Rattle.prop_wide.specs.Ends.{low_of, high_of, known}
-use Rattle.prop_wide.specs.laws.EndLaws.{AreOrdered, AreWithin, IsBetween, ends_ordered}
+use Rattle.prop_wide.specs.laws.EndLaws.{AreWithin, IsBetween, ends_ordered}
 use Rattle.prop_wide.specs.laws.EndLaws.{known_below, known_holds, known_kind}
 use Rattle.prop_many.specs.Circuit.{LeadsHome, LeadsOn, RelatesCircuit, around, circuit_of}
 use Rattle.prop_many.specs.Circuit.{entry_at}

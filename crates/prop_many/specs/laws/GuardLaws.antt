@@ -20,6 +20,7 @@ use Rattle.prop_many.specs.Guards.{own_of, ruled_out}
 use Rattle.prop_many.specs.Many.{Related, value_of}
 use Rattle.prop_many.specs.declared.many.Many.{Many}
 use Rattle.prop_many.specs.declared.many.Many.TheVariants.{Circuit, Cumulative, Differ, Disjoint}
+use Rattle.prop_many.specs.declared.many.Many.TheVariants.{Ending, Starting}
 use Rattle.prop_many.specs.laws.DifferLaws.{IsShown, lt_le_not, shown_here, shown_later, shown_past}
 use Rattle.prop_many.specs.laws.ExactLaws.{known_held}
 use Rattle.prop_many.specs.laws.NumberLaws.{never}
@@ -31,6 +32,8 @@ many_own Cumulative param (Number c ∷ Number s ∷ Number l ∷ Number d ∷ p
 many_own Disjoint param (Number s ∷ Number l ∷ points) point r = ap Some (sym r.0)
 many_own Differ param (p ∷ points) point r = ap Some (sym r.0)
 many_own Circuit param (Number v ∷ Number i ∷ points) point r = ap Some (sym r.0)
+many_own Ending param points point r = tt
+many_own Starting param (Number v ∷ Number u ∷ Number n ∷ points) point r = ap Some (sym r.0)
 many_own rule param points point r = search rules
 
 -- no rule is silent or repeats an argument at a glance
@@ -99,6 +102,8 @@ pub many_barred : (rule : Many)
 many_barred Cumulative param args place = tt
 many_barred Disjoint param args place = tt
 many_barred Circuit param args place = tt
+many_barred Ending param args place = tt
+many_barred Starting param args place = tt
 many_barred Differ param [] place = tt
 many_barred Differ param (own ∷ others) zero = tt
 many_barred Differ param (own ∷ others) (suc k) = by (slice_get others k) refl

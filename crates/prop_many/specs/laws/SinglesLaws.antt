@@ -2,8 +2,10 @@
 use Rattle.prop_lattice.specs.Points.{Number, Element, Symbol}
 use Rattle.prop_many.specs.Exact.{EachIsExact}
 use Rattle.prop_many.specs.declared.many.Many.TheVariants.{Circuit, Cumulative, Differ, Disjoint}
+use Rattle.prop_many.specs.declared.many.Many.TheVariants.{Ending, Starting}
 use Rattle.prop_many.specs.laws.CircuitLaws.{circuit_exact}
 use Rattle.prop_many.specs.laws.ExactLaws.{cumulative_exact, differ_exact, disjoint_exact}
+use Rattle.prop_many.specs.laws.PausingLaws.{ending_exact, starting_exact}
 
 pub each_is_exact : EachIsExact
 each_is_exact Cumulative param args points (Number z) some e r h =
@@ -22,3 +24,11 @@ each_is_exact Circuit param args points (Number z) some e r h =
     circuit_exact args points z some e r h
 each_is_exact Circuit param args points (Element i) some e r h = absurd r
 each_is_exact Circuit param args points (Symbol n) some e r h = absurd r
+each_is_exact Ending param args points (Number z) some e r h =
+    ending_exact args points z some e r h
+each_is_exact Ending param args points (Element i) some e r h = absurd r
+each_is_exact Ending param args points (Symbol n) some e r h = absurd r
+each_is_exact Starting param args points (Number z) some e r h =
+    starting_exact args points z some e r h
+each_is_exact Starting param args points (Element i) some e r h = absurd r
+each_is_exact Starting param args points (Symbol n) some e r h = absurd r

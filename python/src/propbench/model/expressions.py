@@ -15,7 +15,9 @@ from propbench.model.kinds import Domain, Kind, Plain, Point, kind_text
 from propbench.model.meaning import value_of
 from propbench.model.nodes import (
     FALSE,
+    ONE,
     TRUE,
+    ZERO,
     Node,
     Op,
     all_of,
@@ -79,9 +81,6 @@ class Number(Expression):
         return _number(Op.SUM, self, other)
 
     def __radd__(self, other: int) -> "Number":
-        if other == 0 and not isinstance(other, Expression):
-            # (so `sum(cells)` begins)
-            return self
         return _number(Op.SUM, other, self)
 
     def __sub__(self, other: "Number | int") -> "Number":
@@ -309,8 +308,17 @@ def _folded(op: Op, args: Iterable[Node], kind: Kind | None = None) -> Node:
     return constant(value_of(made, {}), made.kind)
 
 
+# What changes nothing on the right of an operation.
+_NEUTRAL = {Op.SUM: ZERO, Op.DIFFERENCE: ZERO, Op.PRODUCT: ONE, Op.QUOTIENT: ONE}
+
+
 def _number(op: Op, left: "Number | int", right: "Number | int") -> Number:
     first, second = node_of(left, Plain.NUMBER), node_of(right, Plain.NUMBER)
+    if second is _NEUTRAL.get(op) and isinstance(left, Number):
+        return left
+    if op in (Op.SUM, Op.PRODUCT) and first is _NEUTRAL[op] and isinstance(right, Number):
+        # (so `sum(cells)` begins)
+        return right
     if op is Op.SUM and first.op is Op.SUM:
         return Number(_folded(op, (*first.args, second)))
     return Number(_folded(op, (first, second)))

@@ -7,8 +7,10 @@ from propbench.session import Session
 
 # What of two to 64 numbers tells that one differs from the others is there where this is.
 DIFFER = "differ63"
-# When a task may start that shares a capacity with up to 40 others is told at once where this is.
+# When a task may start that shares a capacity with up to 40 others is told at once where the first
+# is, and with 41 to 120 of them, rounded up to tens, where the second is.
 CUMULATIVE = "cumulative40"
+CUMULATIVE_TENS = "cumulative120"
 # What is switched by a truth is there where this is, of relations and of what differs.
 SWITCHED = "soft_link"
 
@@ -24,6 +26,7 @@ WIDER = {
     **{f"different{number}": "all_different" for number in range(2, 9)},
     DIFFER: "all_different",
     CUMULATIVE: "what several tasks use",
+    CUMULATIVE_TENS: "what several tasks use",
     SWITCHED: "`pairs` and `all_different` under a premise",
 }
 

@@ -144,7 +144,7 @@ def number(value: int) -> Node:
 
 TRUE = constant(True, Plain.TRUTH)
 FALSE = constant(False, Plain.TRUTH)
-ZERO = number(0)
+ZERO, ONE = number(0), number(1)
 
 
 def negated(truth: Node) -> Node:

@@ -5,10 +5,10 @@ from typing import TYPE_CHECKING
 from propbench.model.context import Context
 from propbench.model.core import different, rows_of
 from propbench.model.kinds import Plain, domain_of, most_different
-from propbench.model.kit import CUMULATIVE, DIFFER
-from propbench.model.nodes import FALSE, Node, Op, constant, node, number
+from propbench.model.kit import CUMULATIVE, CUMULATIVE_TENS, DIFFER
+from propbench.model.nodes import FALSE, ZERO, Node, Op, constant, node, number
 from propbench.model.relations import Relations
-from propbench.model.sharing import Shared
+from propbench.model.sharing import Shared, TaskUse
 from propbench.model.vocabulary import INSIDE
 from propbench.model.writer import TRUTHS
 from propbench.words import MOST_BYTES
@@ -20,8 +20,9 @@ _MOST_DIFFERENT = 8
 # More than these tell more at once where they are numbers: as many as have room on a line, however
 # long their names are.
 _MOST_NUMBERS = 60
-# Beside so many others a task has its room told at once; and what a line has room for beside names.
-_MOST_BESIDE, _ROOM = 40, 100
+# Beside so many others a task has its room told at once, by tens where they are more than the first
+# of these; and what a line has room for beside names.
+_MOST_BESIDE, _MOST_BY_TENS, _ROOM = 40, 120, 100
 
 
 class Truths:
@@ -90,16 +91,28 @@ class Truths:
             self._all.state(truth, context)
         capacity = ""
         for own, others in shared.beside():
-            is_told = 0 < len(others) <= _MOST_BESIDE and self._writer.offers(CUMULATIVE)
-            cells = self._room_cells(shared.parts_of(own, others)) if is_told else []
+            most = self._most_beside(len(others))
+            cells = self._room_cells(shared, own, others, most) if most else []
             if cells and sum(len(it.encode()) + 1 for it in cells) < MOST_BYTES - _ROOM:
                 capacity = capacity or self._capacity(shared, context)
-                self._writer.attach(f"cumulative{len(others)}", capacity, *cells, cells[0])
+                self._writer.attach(f"cumulative{most}", capacity, *cells, cells[0])
             else:
                 self._all.state(shared.load_fits(own, others), context)
 
-    def _room_cells(self, parts: list[Node]) -> list[str]:
-        return [self._all.cell_of(it, self._all.root) for it in parts]
+    def _most_beside(self, count: int) -> int:
+        """For how many others the procedure is that takes so many, 0 where there is none."""
+        if count <= _MOST_BESIDE:
+            return count if self._writer.offers(CUMULATIVE) else 0
+        tens = -(-count // 10) * 10
+        return tens if tens <= _MOST_BY_TENS and self._writer.offers(CUMULATIVE_TENS) else 0
+
+    def _room_cells(
+        self, shared: Shared, own: TaskUse, others: list[TaskUse], most: int
+    ) -> list[str]:
+        """Cells of a task and so many others, of which those that aren't there take no time."""
+        parts = shared.parts_of(own, others)
+        nobody = [ZERO] * (3 * (most - len(others)))
+        return [self._all.cell_of(it, self._all.root) for it in (*parts, *nobody)]
 
     def _capacity(self, shared: Shared, context: Context) -> str:
         """A cell of how much there is while the context holds, and else of as much as is needed."""
