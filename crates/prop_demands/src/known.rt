@@ -60,7 +60,7 @@ fn domains_in(words: &Vocabulary, term: &Term<'_>) -> usize
         Term::One(_, under) => domains_in(words, under),
         Term::Two(Infix::In, left, right) => match &**right {
             Term::Name(name) => domains_in(words, left).max(domains_related(words, name)),
-            _ => domains_in(words, left),
+            behind => domains_in(words, left).max(domains_in(words, behind)),
         },
         Term::Two(_, left, right) => domains_in(words, left).max(domains_in(words, right)),
         _ => 0,
