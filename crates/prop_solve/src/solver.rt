@@ -38,6 +38,10 @@ const LASTING: usize = 3;
 /// After so many contradictions the values of an earlier plan are tried first no longer.
 const TRIALS: u64 = 100;
 
+/// After so many contradictions what was decided last is tried first again, and no longer what the
+/// best plan has, where the best is asked for.
+const NEAR: u64 = 500;
+
 /// So many steps are taken before it is looked whether there is room for more.
 const AT_ONCE: u64 = 1_000;
 
@@ -587,15 +591,26 @@ impl Solver {
 
     /// What is supposed of a place before anything else: what it had in an earlier plan, until a
     /// plan is found or that failed often. Where the best is asked for, plans near the last one are
-    /// looked at first: it is the best so far.
+    /// looked at first: it is the best so far. Where that failed often only each run begins near it,
+    /// and stays near what it tried last (Pipatsrisawat and Darwiche 2007).
     fn first(&self, place: usize) -> First {
         if self.expects && self.excuses.is_empty() && self.tally.contradictions < TRIALS {
             return First::Again;
         }
         match self.question.goal {
             Goal::Greatest(best) if best == place => First::Greatest,
-            Goal::Least(_) | Goal::Greatest(_) => First::Kept,
+            Goal::Least(_) | Goal::Greatest(_) => self.near_the_best(),
             Goal::Any | Goal::Differing => First::Least,
+        }
+    }
+
+    /// What is supposed first of an element where the best is asked for: what the last plan has, or
+    /// where that failed often what it was decided to be last.
+    fn near_the_best(&self) -> First {
+        if self.tally.contradictions < NEAR {
+            First::Kept
+        } else {
+            First::Decided
         }
     }
 

@@ -160,6 +160,8 @@ pub enum First {
     Greatest,
     /// Its least number, or the element that it had when last all was decided.
     Kept,
+    /// Its least number, or the element that it was decided to be last, since the search began again.
+    Decided,
     /// The value that it had when last all was decided.
     Again,
 }
@@ -201,7 +203,7 @@ pub(crate) fn first_try(info: Info, kept: Info, first: First) -> Option<Fact> {
             Some(Fact::AtMost(low))
         }
         Info::Set(elements) => {
-            let is_kept = matches!(first, First::Kept | First::Again);
+            let is_kept = matches!(first, First::Kept | First::Decided | First::Again);
             let kept = if is_kept { kept } else { info };
             let element = first_element(elements, kept)?;
             Some(Fact::Among(element))

@@ -8,8 +8,9 @@ use std::alloc::{AllocError, Global};
 /// How many places a word tells of.
 const WORD: usize = 64;
 
-/// What is believed of each place, which places are open, the entries of each place, and what was
-/// believed of each when last none was open.
+/// What is believed of each place, which places are open, the entries of each place, what was
+/// believed of each when last none was open, and what each was decided to be since then, or since
+/// the search began again.
 #[derive(Drop)]
 pub(crate) struct Present {
     infos: Vec<Info>,
@@ -17,6 +18,7 @@ pub(crate) struct Present {
     open: Vec<u64>,
     course: Course,
     kept: Vec<Info>,
+    decided: Vec<Info>,
 }
 
 /// Whether several bits are set. (That is quicker than to count them.)
@@ -54,6 +56,7 @@ impl Present {
             open: vec![in alloc; 0; beliefs.len() / WORD + 1]?,
             course: Course::new(alloc, given)?,
             kept: Vec::from_slice(alloc, beliefs)?,
+            decided: Vec::from_slice(alloc, beliefs)?,
         };
         for (place, info) in beliefs.iter().enumerate() {
             present.set(place, *info);
@@ -104,6 +107,7 @@ impl Present {
         for place in 0..self.kept.len() {
             self.kept[place] = self.info(place);
         }
+        self.forget_decided();
     }
 
     /// These count as what was believed of the first places when last none was open.
@@ -112,6 +116,30 @@ impl Present {
             if place < self.kept.len() {
                 self.kept[place] = *value;
             }
+        }
+        self.forget_decided();
+    }
+
+    /// The element that a place was last decided to be since the search began again; what was kept
+    /// of it where there was none, and nothing where there is no such place.
+    pub(crate) fn decided(&self, place: usize) -> Info {
+        match self.decided.get(place) {
+            Some(info) => *info,
+            None => Info::Nothing,
+        }
+    }
+
+    /// What was kept counts as what was decided last.
+    pub(crate) fn forget_decided(&mut self) {
+        for (decided, kept) in self.decided.iter_mut().zip(&self.kept) {
+            *decided = *kept;
+        }
+    }
+
+    /// What is taken back of a place is what it was decided to be last, where one element was left.
+    fn remember(&mut self, place: usize, info: Info) {
+        if matches!(info, Info::Set(_)) && is_decided(info) && place < self.decided.len() {
+            self.decided[place] = info;
         }
     }
 
@@ -141,6 +169,7 @@ impl Present {
             // (the newest first)
             let at = trail.len() - 1 - (back - start);
             let entry = trail.entry(at);
+            self.remember(entry.place, entry.is);
             self.set(entry.place, entry.was);
             self.course.pop(entry.place);
         }

@@ -283,7 +283,11 @@ impl Spread {
             return Ok(false);
         }
         let info = self.trail.info(place);
-        let Some(fact) = first_try(info, self.present.kept(place), first) else {
+        let earlier = match first {
+            First::Decided => self.present.decided(place),
+            _ => self.present.kept(place),
+        };
+        let Some(fact) = first_try(info, earlier, first) else {
             return Ok(false);
         };
         self.trail.raise()?;
@@ -325,6 +329,7 @@ impl Spread {
             → IsKeptIn self.old.nogoods g) }
     {
         self.back(0)?;
+        self.present.forget_decided();
         self.store.forget(&self.trail)
     }
 
