@@ -17,9 +17,9 @@ use prop_arith::{KITS, Kit, PRELUDE};
 use prop_hall::{EXCLUDERS, Excluder};
 use prop_lattice::Info;
 use prop_many::{
-    CIRCUITS, TASKS, Many, PRELUDE as MANY_PRELUDE, PROCEDURES as MANY_PROCEDURES,
-    circuits_are_stated, tasks_are_stated, prelude_is_stated as many_prelude_is_stated,
-    procedures_are_stated as many_are_stated,
+    CIRCUITS, Many, PRELUDE as MANY_PRELUDE, PROCEDURES as MANY_PROCEDURES, TASKS,
+    circuits_are_stated, prelude_is_stated as many_prelude_is_stated,
+    procedures_are_stated as many_are_stated, tasks_are_stated,
 };
 use prop_procedures::{Both, Named, Need, Param, Shape};
 use prop_rows::{
