@@ -14,6 +14,7 @@ TOP = os.path.dirname(os.path.dirname(os.path.realpath(__file__)))
 
 # What the stand-ins are called, and what they do: WRONG, LACKING and APT come from the case.
 STAND_INS = {
+    "tools/laid_out": '[ "$WRONG" != layout ]',
     "tools/timed": 'echo proofs; [ "$WRONG" != proofs ]',
     "bin/pytest-3": 'echo sessions; [ "$WRONG" != sessions ]',
     "tools/python_gate": 'echo python; [ "$WRONG" != python ]',
@@ -96,6 +97,7 @@ GATES = [
         lacking="python3-hypothesis",
         has_python=False,
     ),
+    Gate("a file is not laid out", [], 1, wrong_part="layout"),
     Gate("proofs fail", ALL, 1, wrong_part="proofs"),
     Gate("sessions fail", ALL, 1, wrong_part="sessions"),
     Gate("the Python package fails", ALL, 1, wrong_part="python"),

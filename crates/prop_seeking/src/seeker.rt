@@ -152,10 +152,27 @@ impl<R: Guarded + Drop, O: Order + Drop> Seeker<R, O> {
     {
         let told = Reply::saying(self.strode());
         if is_refused(&told) {
-            self.inquiry = None;
+            self.forget();
             return told;
         }
         told
+    }
+
+    /// The next question begins a search.
+    fn forget(&mut self)
+        ensures none { self.new.inquiry ≡ None }
+        ensures same { self.new.teller ≡ self.old.teller }
+        ensures earlier { self.new.earlier ≡ self.old.earlier }
+    {
+        // One call in place of the drop of each part, which a proof would go through one by one.
+        drop(self.inquiry.take());
+    }
+
+    /// The next question may go on with this one.
+    fn keep(&mut self, inquiry: Inquiry)
+        ensures { self.new ≡ record self.old { inquiry = Some inquiry } }
+    {
+        drop(self.inquiry.replace(inquiry));
     }
 
     /// What is told of a step of the question.
@@ -171,9 +188,16 @@ impl<R: Guarded + Drop, O: Order + Drop> Seeker<R, O> {
         let Some(mut inquiry) = self.inquiry.take() else {
             return String::from_str(self.teller.session().alloc(), "step 0");
         };
-        let text = self.step(&mut inquiry)?;
-        self.inquiry = Some(inquiry);
-        Ok(text)
+        match self.step(&mut inquiry) {
+            Ok(text) => {
+                self.keep(inquiry);
+                Ok(text)
+            }
+            Err(error) => {
+                drop(inquiry);
+                Err(error)
+            }
+        }
     }
 
     /// What is told of a step of a question.
@@ -283,7 +307,7 @@ impl<R: Guarded + Drop, O: Order + Drop> Seeker<R, O> {
     {
         let reply = Reply::saying(self.answered(asked));
         if is_refused(&reply) {
-            self.inquiry = None;
+            self.forget();
             return reply;
         }
         reply
@@ -355,9 +379,16 @@ impl<R: Guarded + Drop, O: Order + Drop> Seeker<R, O> {
     {
         let before = self.taken(asked);
         let mut inquiry = self.begun(asked, before)?;
-        let text = self.text(asked, &mut inquiry)?;
-        self.inquiry = Some(inquiry);
-        Ok(text)
+        match self.text(asked, &mut inquiry) {
+            Ok(text) => {
+                self.keep(inquiry);
+                Ok(text)
+            }
+            Err(error) => {
+                drop(inquiry);
+                Err(error)
+            }
+        }
     }
 
     /// What is replied to what is asked, by its inquiry.

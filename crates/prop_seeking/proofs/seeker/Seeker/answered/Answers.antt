@@ -1,4 +1,5 @@
-use Rattle.std.proofs.Common.{◌∙◌, subst, Some}
+use Rattle.std.proofs.Common.{◌∙◌, Some, ap, subst}
+use Rattle.std.specs.Option.{option_map}
 use Rattle.std.specs.String.{string_bytes}
 use Rattle.prop_workbench.specs.Sessions.{library_of, state_of}
 use Rattle.prop_seeking.specs.Plans.{Says}
@@ -6,13 +7,13 @@ use Rattle.prop_seeking.specs.inner.Seekers.{asked_of, inquiry_of, question_of, 
 use Rattle.prop_seeking.proofs.InquiryLemmas.{before_taken}
 use Rattle.prop_seeking.proofs.seeker.Seeker.answered.Goals as goal
 
-pub returns-clause-replied : goal.returns-clause-replied
-returns-clause-replied g c =
+pub returns-in-Ok-clause-replied : goal.returns-in-Ok-clause-replied
+returns-in-Ok-clause-replied g c =
     let teller = c.taken-before.ensures.same in
     let first = c.in_ok-inquiry.inquiry.solver in
     let last = c.text.new.inquiry.solver in
     let begun = c.in_ok-inquiry.ensures in
-    let same = c.in_ok-text.ensures.same in
+    let same = c.in-Ok.ensures.same in
     let before = rows_in first.goal first.excuses in
     let after = rows_in first.goal last.excuses in
     record {
@@ -23,9 +24,9 @@ returns-clause-replied g c =
       says = subst (λ (P : Type 0). P) (λ i. Says (library_of g.R.Rule.value_of (teller i).session)
           (state_of (teller i).session)
           (question_of (begun.goal i) (begun.named i)) c.args.asked.now.most before after
-          (string_bytes c.in_ok-text.text)) c.in_ok-text.ensures.answers;
-      goes_on = λ i. Some (
+          (string_bytes c.in-Ok.text)) c.in-Ok.ensures.answers;
+      goes_on = ap (λ s. option_map inquiry_of s.inquiry) c.keep.ensures ∙ (λ i. Some (
         question_of ((same.goal ∙ begun.goal) i) ((same.named ∙ begun.named) i),
         rows_in (same.goal i) last.excuses,
-      );
+      ));
     }

@@ -15,7 +15,7 @@ returns-then-is_refused-clause-replies g c =
     let P : List ℕ → Type 0 = Replied (library_of g.R.Rule.value_of s.teller.session) (state_of s.teller.session)
     (option_map inquiry_of s.inquiry) (asked_of c.args.asked.now) (option_map inquiry_of c.answered.new.self.inquiry) in
     elim (said_by string_bytes c.answered.result answer P c.saying-reply.ensures c.answered.ensures.replied) [
-      | inl m ↦ inl (m, refl)
+      | inl m ↦ inl (m, c.forget.ensures.none)
       | inr x ↦ absurd (text_kept answer x.0 x.2 (sym c.is_refused.ensures ∙ c.if-is_refused.true))
     ]
 

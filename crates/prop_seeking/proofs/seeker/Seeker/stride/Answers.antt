@@ -18,7 +18,11 @@ returns-then-is_refused-clause-strides g c =
     (option_map inquiry_of c.strode.new.self.inquiry ≡ option_map inquiry_of s.inquiry)
     × (rest : List ℕ) × (text ≡ codes "step " ++ rest) in
     elim (said_by string_bytes c.strode.result answer P c.saying-told.ensures c.strode.ensures.strode) [
-      | inl m ↦ (there, ap told_of c.strode.ensures.same, inl (refl, m))
+      | inl m ↦ (
+        there,
+        ap told_of (c.forget.ensures.same ∙ c.strode.ensures.same),
+        inl (ap (option_map inquiry_of) c.forget.ensures.none, m),
+      )
       | inr x ↦ absurd (text_kept answer x.0 x.2 (sym c.is_refused.ensures ∙ c.if-is_refused.true))
     ]
 
