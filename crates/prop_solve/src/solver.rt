@@ -591,8 +591,8 @@ impl Solver {
 
     /// What is supposed of a place before anything else: what it had in an earlier plan, until a
     /// plan is found or that failed often. Where the best is asked for, plans near the last one are
-    /// looked at first: it is the best so far. Where that failed often only each run begins near it,
-    /// and stays near what it tried last (Pipatsrisawat and Darwiche 2007).
+    /// looked at first: it is the best so far. Where that failed often each run only begins near
+    /// it, and stays near what it tried last (Pipatsrisawat and Darwiche 2007).
     fn first(&self, place: usize) -> First {
         if self.expects && self.excuses.is_empty() && self.tally.contradictions < TRIALS {
             return First::Again;

@@ -160,7 +160,7 @@ pub enum First {
     Greatest,
     /// Its least number, or the element that it had when last all was decided.
     Kept,
-    /// Its least number, or the element that it was decided to be last, since the search began again.
+    /// Its least number, or the element that it was decided to be last, since the last restart.
     Decided,
     /// The value that it had when last all was decided.
     Again,
