@@ -16,7 +16,8 @@ returns-in-Ok-clause-strode g c =
     let Quiet : Option Inquiry → Type 0 = λ o. IfSome o (λ i. i.solver.goal ≡ Differing → ⊥) in
     let quiet : first.solver.goal ≡ Differing → ⊥ = subst Quiet (sym asked.1 ∙ taken) asked.2.0 in
     let told = c.in-Ok.ensures.told in (
-      ap (λ s. option_map inquiry_of s.inquiry) c.keep.ensures ∙ ap Some (asked_yet first last quiet c.in-Ok.ensures.same) ∙ ap (option_map inquiry_of) (sym taken),
+      ap (λ s. option_map inquiry_of s.inquiry) c.keep.ensures
+          ∙ ap Some (asked_yet first last quiet c.in-Ok.ensures.same) ∙ ap (option_map inquiry_of) (sym taken),
       told.0,
       told.1,
     )
