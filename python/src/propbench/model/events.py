@@ -101,6 +101,12 @@ class Required:
 
 
 @dataclass(frozen=True)
+class Clauses(Required):
+    """Each of many parts holds, in each of which one of some orders does. A program that takes
+    constraints is told them as such."""
+
+
+@dataclass(frozen=True)
 class Told:
     """A cell has a value, always or under a premise."""
 

@@ -1,8 +1,8 @@
 """Which procedures of the wider kit a program has."""
 
-from collections.abc import Container, Iterable
+from collections.abc import Collection, Container
 
-from propbench.refusals import NoSuchProcedure, Refused
+from propbench.refusals import NoSuchProcedure, Refused, UnknownCommand
 from propbench.session import Session
 
 # What of two to 64 numbers tells that one differs from the others is there where this is.
@@ -11,6 +11,8 @@ DIFFER = "differ63"
 # is, and with 41 to 120 of them, rounded up to tens, where the second is.
 CUMULATIVE = "cumulative40"
 CUMULATIVE_TENS = "cumulative120"
+# Constraints as one writes them are taken where this is a command.
+REQUIRE = "require"
 # What is switched by a truth is there where this is, of relations and of what differs.
 SWITCHED = "soft_link"
 
@@ -31,15 +33,17 @@ WIDER = {
 }
 
 
-def offered(session: Session, cell: str, names: Iterable[str] = WIDER) -> frozenset[str]:
-    """Those that the program has: put at a single cell, each is refused, and what isn't there as
-    unknown. Nothing changes by that."""
-    asked = list(names)
-    replies = session.send_all([f"attach {name} {cell}" for name in asked], keep_refused=True)
+def offered(session: Session, cell: str, names: Collection[str] = WIDER) -> frozenset[str]:
+    """Those that the program has, and `require`: put at a single cell, or alone, each is refused, and
+    what isn't there as unknown. Nothing changes by that."""
+    asked = [*names, REQUIRE]
+    lines = [*(f"attach {name} {cell}" for name in names), REQUIRE]
+    replies = session.send_all(lines, keep_refused=True)
+    unknown = NoSuchProcedure, UnknownCommand
     return frozenset(
         name
         for name, reply in zip(asked, replies)
-        if isinstance(reply, Refused) and not isinstance(reply, NoSuchProcedure)
+        if isinstance(reply, Refused) and not isinstance(reply, unknown)
     )
 
 

@@ -7,6 +7,7 @@ from propbench.model.choosing import is_large, second_name, sides_of
 from propbench.model.context import Context
 from propbench.model.events import (
     CellMade,
+    Clauses,
     ConstraintChoice,
     DomainMade,
     Event,
@@ -17,6 +18,7 @@ from propbench.model.events import (
 )
 from propbench.model.kinds import Domain, Plain
 from propbench.model.nodes import Declared
+from propbench.model.requiring import Requiring
 from propbench.model.translation import Translation
 from propbench.model.vocabulary import Vocabulary
 from propbench.model.writer import Writer, span_text
@@ -52,8 +54,7 @@ class Script:
         elif isinstance(event, CellMade):
             self._make_cell(event.cell)
         elif isinstance(event, Required):
-            context = self._context(event.premise) if event.premise is not None else None
-            self.translation.state(event.constraint, context or self.writer.root)
+            self._require(event)
         elif isinstance(event, Told):
             self._tell(event)
         elif isinstance(event, ValueChoice):
@@ -81,6 +82,22 @@ class Script:
     def forget(self, premise: str) -> None:
         """Takes in that all that was told under a premise is gone, its gates with it."""
         self._premises.pop(premise, None)
+
+    def _require(self, event: Required) -> None:
+        lines = self._required(event)
+        if lines is not None:
+            for line in lines:
+                self.writer.line(line)
+            return
+        context = self._context(event.premise) if event.premise is not None else self.writer.root
+        self.translation.state(event.constraint, context)
+
+    def _required(self, event: Required) -> list[str] | None:
+        """The lines of a constraint that the program takes as it is; None where it doesn't."""
+        if not isinstance(event, Clauses) or event.premise is None or not self.writer.requires:
+            return None
+        requiring = Requiring(lambda each: self.translation.cell_of(each, self.writer.root))
+        return requiring.lines(event.constraint, self.vocabulary.premises.line(event.premise))
 
     def _make_cell(self, cell: Declared) -> None:
         name = self.vocabulary.cells.line(cell.name)

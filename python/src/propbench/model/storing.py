@@ -12,6 +12,7 @@ from typing import TYPE_CHECKING, Any
 
 from propbench.model.events import (
     CellMade,
+    Clauses,
     ConstraintChoice,
     DomainMade,
     Event,
@@ -68,8 +69,10 @@ def record_of(event: Event) -> dict[str, object]:
     if isinstance(event, CellMade):
         return _cell_record(event.cell)
     if isinstance(event, Required):
-        law = {"law": event.written} if isinstance(event, LawStated) else {}
-        return {"require": _parts(event.constraint), "under": event.premise, **law}
+        more: dict[str, object] = {"law": event.written} if isinstance(event, LawStated) else {}
+        if isinstance(event, Clauses):
+            more["clauses"] = True
+        return {"require": _parts(event.constraint), "under": event.premise, **more}
     if isinstance(event, Told):
         read = {"reading": _reading_record(event.reading)} if isinstance(event, Read) else {}
         return {"state": event.cell.name, "values": event.values, "under": event.premise, **read}
@@ -149,7 +152,9 @@ class Records:
             return DomainMade(made)
         if "require" in record:
             stated = self._node(record["require"]), record["under"]
-            return LawStated(*stated, record["law"]) if "law" in record else Required(*stated)
+            if "law" in record:
+                return LawStated(*stated, record["law"])
+            return Clauses(*stated) if "clauses" in record else Required(*stated)
         if "state" in record:
             values = tuple(record["values"])
             told = self.cells[record["state"]], values, record["under"]

@@ -9,7 +9,7 @@ from dataclasses import dataclass
 
 from propbench.model.context import Context
 from propbench.model.kinds import Domain, Kind, Plain, Point
-from propbench.model.kit import SWITCHED
+from propbench.model.kit import REQUIRE, SWITCHED
 from propbench.model.naming import INNER
 from propbench.model.vocabulary import INSIDE, Vocabulary
 from propbench.words import MOST_NUMBER
@@ -61,6 +61,11 @@ class Writer:
         """Whether the program has forms that are switched. (A file that was saved where it had none
         means the lines that it has.)"""
         return self._offers(SWITCHED)
+
+    @property
+    def requires(self) -> bool:
+        """Whether the program takes constraints as one writes them."""
+        return self._offers(REQUIRE)
 
     @property
     def position(self) -> int:

@@ -10,7 +10,7 @@ from propbench.model.cells import Cell, NumberCell
 from propbench.model.events import Required, Told
 from propbench.model.expressions import Number, Truth, implies, total
 from propbench.model.given import values_of
-from propbench.model.nodes import TRUE
+from propbench.model.nodes import TRUE, all_of
 from propbench.model.writing import text_of
 from propbench.planning.bounds import limit_of, state_bounds, state_end
 from propbench.planning.calendar import (
@@ -1122,11 +1122,11 @@ class Project:
 
     def _keep_apart(self, task: Task, others: Iterable[Task]) -> None:
         """Its people do one thing at a time."""
-        for other in others:
-            for person in (each for each in task.doers if each in other.doers):
-                apart = (other.end <= task.start) | (task.end <= other.start)
-                both = by_both(person, task, other, apart)
-                self.state(KeptApart(both.node, limit_of(person), person, self))
+        for person in task.doers:
+            theirs = [other for other in others if person in other.doers]
+            pairs = [by_both(person, task, other, _apart(task, other)).node for other in theirs]
+            if pairs:
+                self.state(KeptApart(all_of(pairs), limit_of(person), person, self))
 
     def _keep_off(self, aways: Sequence[Away]) -> None:
         """Nothing is done by somebody who is away."""
@@ -1164,6 +1164,11 @@ class Project:
         if self.tasks:
             state_end(self, made)
         return made
+
+
+def _apart(task: Task, other: Task) -> Truth:
+    """That one of two tasks ends before the other starts."""
+    return (task.end <= other.start) | (other.end <= task.start)
 
 
 def _is_before(first: Day, last: Day) -> bool:

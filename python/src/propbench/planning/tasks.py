@@ -8,7 +8,7 @@ from dataclasses import dataclass, field
 from typing import TYPE_CHECKING, SupportsIndex
 
 from propbench.model.cells import NumberCell, TruthCell
-from propbench.model.events import Event, Required, Told
+from propbench.model.events import Clauses, Event, Required, Told
 from propbench.model.expressions import Number, Truth
 from propbench.showing import printable
 
@@ -171,7 +171,7 @@ class NotYet(Required):
 
 
 @dataclass(frozen=True)
-class TaskOrdered(Required):
+class TaskOrdered(Clauses):
     """A task of a project comes after another."""
 
     project: "Project"
@@ -184,7 +184,7 @@ class TaskOrdered(Required):
 
 
 @dataclass(frozen=True)
-class KeptApart(Required):
+class KeptApart(Clauses):
     """What somebody does is done one thing at a time."""
 
     premise: str

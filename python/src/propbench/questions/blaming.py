@@ -12,6 +12,7 @@ from math import lcm
 
 from propbench.blamed import Blamed
 from propbench.clock import Clock
+from propbench.model.requiring import premise_of
 from propbench.points import Points
 from propbench.questions.asking import AnyResult, premises_named, tried_by
 from propbench.questions.certificate import OPEN, Certificate, Evidence
@@ -175,7 +176,7 @@ def _shown(
 def _plan(session: Session, base: Base, believed: Lines) -> dict[str, str]:
     """The values of a plan with these premises, by their names on lines. Raises ValueError where
     none is found in time."""
-    told = dict.fromkeys(line.split()[1] for line in base.stated if line.split()[0] == "tell")
+    told = dict.fromkeys(filter(None, map(premise_of, base.stated)))
     session.send_all([f"{'bring' if name in believed else 'kick'} {name}" for name in told])
     reply = session.send("solve", seconds=_SECONDS)
     session.drop_lines()

@@ -123,8 +123,13 @@ class Checker:
         kinds = KINDS | {w[1]: frozenset(w[2:]) for w in words if w[0] == "domain"}
         self.kinds = {w[1]: kinds.get(w[2], SYMBOLS) for w in words if w[0] == "cell"}
         self.premises = {w[1] for w in words if w[0] == "tell"}
+        required = [w for w in words if w[0] == "require"]
+        self.premises |= {w[-1] for w in required if w[-2:-1] == ["under"]}
+        # Where each cell has one value, what is required holds if the program finds that it fits.
+        self.ends: Asks = [("settle", SETTLED), *[("solve", FOUND)] * bool(required)]
         # What may tell nothing of points (but within `product` and `alike`), or is not listed.
-        used = {w for line in base for w in re.findall(r"(?:^\s*attach|[=;])\s*(\w+)", line)}
+        made = [line for line in base if line.split()[0] != "require"]
+        used = {w for line in made for w in re.findall(r"(?:^\s*attach|[=;])\s*(\w+)", line)}
         self.untold = [*used & {"divider", "parter", "" if listed else "local"}]
         self.rooms, self.basis, self.tries = dict(self.kinds), self.names(basis), Asks()
         self.asks: Asks = [" ".join(w) for w in words if w[0] != "choose"]
@@ -199,7 +204,7 @@ class Checker:
         demand(not self.untold, says)
         others: Asks = [(f"ask {cell}", IS_POINT) for cell in self.kinds if cell not in plan]
         self.believe(self.asks, names)
-        self.tell(self.asks, (*told, *values.items()), [("settle", SETTLED), *others])
+        self.tell(self.asks, (*told, *values.items()), [*self.ends, *others])
         return plan
 
     def walk(self, given: Names, told: CellTexts, tree: Any) -> list[tuple[Any, CellTexts]]:

@@ -8,6 +8,7 @@ from collections.abc import Iterable, Iterator, Mapping, Sequence
 from itertools import islice
 
 from propbench.closing import Closing
+from propbench.model.requiring import premise_of
 from propbench.questions.checker import copies
 from propbench.questions.rooms import single
 from propbench.refusals import LimitReached
@@ -39,7 +40,8 @@ class Completing(Closing):
             self.session.close()
             raise
         words = [line.split() for line in [*base, *made]]
-        self._premises = list(dict.fromkeys(each[1] for each in words if each[0] == "tell"))
+        told = filter(None, map(premise_of, [*base, *made]))
+        self._premises = list(dict.fromkeys(told))
         self._kinds = {each[1]: each[2] for each in words if each[0] == "cell"}
         self._names = {each[1]: each[2:] for each in words if each[0] == "domain"}
         self._names["truth"] = ["no", "yes"]

@@ -10,6 +10,7 @@ from contextlib import suppress
 from dataclasses import dataclass, field, replace
 
 from propbench.closing import Closing
+from propbench.model.requiring import premise_of, without_premise
 from propbench.program import OutOfTime, ProgramEnded
 from propbench.questions.marks import mark_for
 from propbench.questions.model import Model
@@ -72,7 +73,7 @@ class Base:
         kept, gone = self.stated, set[str]()
         if kept != other.stated[: len(kept)]:
             gone = _premises(kept) - _premises(other.stated)
-            kept = [line for line in kept if _premise(line) not in gone]
+            kept = [line for line in kept if premise_of(line) not in gone]
             if kept != other.stated[: len(kept)]:
                 return None
         return [
@@ -83,14 +84,8 @@ class Base:
         ]
 
 
-def _premise(line: str) -> str | None:
-    """The premise under which a line states something, None where it doesn't."""
-    words = line.split(None, 2)
-    return words[1] if words[0] == "tell" else None
-
-
 def _premises(lines: Iterable[str]) -> set[str]:
-    return {premise for line in lines if (premise := _premise(line)) is not None}
+    return {premise for line in lines if (premise := premise_of(line)) is not None}
 
 
 @dataclass
@@ -169,10 +164,10 @@ def holding_always(lines: Sequence[str], premises: frozenset[str]) -> Sequence[s
     made = []
     for line in lines:
         command, *words = line.split(None, 2) or [""]
-        if not words or words[0] not in premises or command not in ("tell", "kick", "bring"):
+        if words and premise_of(line) in premises:
+            made.append(without_premise(line))
+        elif command not in ("kick", "bring") or words[0] not in premises:
             made.append(line)
-        elif command == "tell":
-            made.append(f"fix {words[1]}")
     return made
 
 

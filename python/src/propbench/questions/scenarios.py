@@ -11,6 +11,7 @@ from typing import TYPE_CHECKING
 
 from propbench.clock import Clock, Progress
 from propbench.model.answers import Answer
+from propbench.model.requiring import premise_of
 from propbench.model.shrinking import shrunk
 from propbench.program import OutOfTime
 from propbench.questions.asking import CellLike, answered, cell_named, cells_given
@@ -229,7 +230,7 @@ class AskedTable:
     def _made(self) -> Certificate | None:
         """What the program answers to each question of the table."""
         evidence = Evidence.without_trial(self._model, mark_for(self._base))
-        known = {line.split()[1] for line in self._base if line.split()[0] == "tell"}
+        known = set(filter(None, map(premise_of, self._base)))
         claims: list[tuple[str, dict[str, object]]] = []
         for name, heard in self._heard.items():
             change = self._changes[name]

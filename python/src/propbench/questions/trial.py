@@ -9,6 +9,7 @@ from collections.abc import Callable, Collection, Iterable, Sequence
 
 from propbench.clock import Clock
 from propbench.closing import Closing
+from propbench.model.requiring import premise_of
 from propbench.program import OutOfTime
 from propbench.questions.checker import digits
 from propbench.questions.marks import mark_for
@@ -125,7 +126,7 @@ class Trial(Closing):
     def _stated(self) -> list[str]:
         """The other lines of the base, where nothing is believed but what always is."""
         made = [line for line in self.base if line.split()[0] != "choose"]
-        told = dict.fromkeys(line.split()[1] for line in made if line.split()[0] == "tell")
+        told = dict.fromkeys(filter(None, map(premise_of, made)))
         kicks = [f"kick {premise}" for premise in told]
         brings = [f"bring {self.line[premise]}" for premise in self.basis]
         return [*made, *kicks, *brings, f"limit {_STEPS}"]
